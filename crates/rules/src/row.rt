@@ -1,0 +1,18 @@
+/// The open lots of one account, contract by contract: bought (long) and sold (short).
+#[derive(Clone, Copy)]
+pub struct Counts {
+    pub long: [u32; 8],
+    pub short: [u32; 8],
+}
+
+/// What the book knows of one account beside its deposits. Both debts are not yet due.
+#[derive(Clone, Copy)]
+pub struct AccountRow {
+    pub counts: Counts,
+    /// What the customer placed with its participant, in yen.
+    pub customer_margin: u64,
+    /// What the customer owes its participant, in yen.
+    pub customer_debt: u64,
+    /// What the participant owes the clearing house on this account, in yen.
+    pub participant_debt: u64,
+}
