@@ -1,0 +1,50 @@
+-- The number register: what a memory of numbers means as boxes, and what it holds after each call. The number at
+-- place b of the memory is that of box b.
+use mathlib.Core.Path.{_≡_}
+use mathlib.Core.Bool.{cond, true, false}
+use mathlib.Core.List.{List, _++_}
+use Prim.Native.Nat.{ℕ, _+_, _-_, _≤_, min}
+use native.Mathlib.Omega.{arith}
+use lib.Dec.{ltb, eqb}
+use lib.ListN.{length, getD, set, drop, replicate}
+use Rattle.std.proofs.shelf.Tests.{le-ltb}
+use Rattle.rules.specs.Sizes.{boxes as box-count, most-units}
+use Rattle.custody.specs.Boxes.{Boxes, Lawful}
+use Rattle.custody.specs.Moves.{passes-limit, passes-holding}
+
+-- how many boxes a memory with room for so many serves
+abbrev pub served : ℕ → ℕ
+served room = min room box-count
+
+-- a box that is served may hold as much as any box can; every other has no room at all
+abbrev pub limit-of : (room b : ℕ) → ℕ
+limit-of room b = cond (ltb b (served room)) most-units 0
+
+-- a stored number above the limit reads as the limit
+abbrev pub register : List ℕ → Boxes
+register cells = record { limit = limit-of (length cells); held = λ b. min (getD cells b 0) (limit-of (length cells) b) }
+
+-- Clear writes 0 for every box that is served; numbers past the last box stay.
+abbrev pub cleared-cells : List ℕ → List ℕ
+cleared-cells cells = replicate (served (length cells)) 0 ++ drop (served (length cells)) cells
+
+-- Put and take write the new holding of their box; a refusal and 0 units write nothing.
+abbrev pub put-cells : List ℕ → (b units : ℕ) → List ℕ
+put-cells cells b units = cond (passes-limit (register cells) b units) cells (cond (eqb units 0) cells (set cells b (register cells .held b + units)))
+
+abbrev pub take-cells : List ℕ → (b units : ℕ) → List ℕ
+take-cells cells b units = cond (passes-holding (register cells) b units) cells (cond (eqb units 0) cells (set cells b (register cells .held b - units)))
+
+-- That such boxes keep the laws of a custodian.
+pub limit-bounded : (room b : ℕ) → limit-of room b ≤ most-units
+limit-bounded room b = elim (ltb b (served room)) as (λ t. cond t most-units 0 ≤ most-units) [ true ↦ omega arith | false ↦ omega arith ]
+
+pub no-limit-beyond : (room b : ℕ) → box-count ≤ b → limit-of room b ≡ 0
+no-limit-beyond room b h = let f : ltb b (served room) ≡ false = le-ltb b (served room) (omega arith) in rw f
+
+pub register-lawful : {S : Type 0} (cells : S → List ℕ) → Lawful (λ s. register (cells s))
+register-lawful cells = record {
+  bounded = λ s. limit-bounded (length (cells s));
+  none-beyond = λ s. no-limit-beyond (length (cells s));
+  within = λ s b. omega arith;
+}
