@@ -34,7 +34,7 @@ flat = record { long = replicate contracts 0; short = replicate contracts 0 }
 
 -- no count above its limit
 abbrev pub Countable : Counts → Type 0
-Countable counts = ((k : ℕ) → getD (counts .long) k 0 ≤ most-count) × ((k : ℕ) → getD (counts .short) k 0 ≤ most-count)
+Countable counts = (k : ℕ) → k < contracts → (getD (counts .long) k 0 ≤ most-count) × (getD (counts .short) k 0 ≤ most-count)
 
 -- What a margin method shows: no lot asks for no margin, and no amount passes its limit. (That the same counts always
 -- get the same amount needs no law: an amount is a function of the counts.)
