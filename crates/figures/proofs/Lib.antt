@@ -1,0 +1,2 @@
+pub mod Worths
+pub mod Shared
