@@ -97,5 +97,5 @@ ask-participant s participant =
     answered ((WrongParticipant, not (ltb participant participants)) ∷ []) (participant-claim s participant, retained s participant)
 
 -- of a box: the units that it holds, and 0 of a number beyond the last box
-unfoldable pub ask-held : State → ℕ → ℕ
+abbrev pub ask-held : State → ℕ → ℕ
 ask-held s b = cond (ltb b boxes) (s .held b) 0

@@ -49,11 +49,18 @@ pub record Lawful (T : Terms) : Type 0 where
   pub house-method : LawfulMethod (T .house-amount)
   pub customer-method : LawfulMethod (T .customer-amount)
 
--- what a row of an account may hold
-abbrev pub RowAllowed : ℕ → AccountRow → Type 0
-RowAllowed account row =
-    Countable (row .counts) × (row .«customer_margin» ≤ most-amount) × (row .«customer_debt» ≤ most-amount) × (row .«participant_debt» ≤ most-amount)
-    × (account < participants → (row .«customer_margin» ≡ 0) × (row .«customer_debt» ≡ 0))
+-- What a row may hold: counts and amounts within their limits, and of a house account, which has no customer, no
+-- customer margin and no customer's debt.
+abbrev pub Affordable : AccountRow → Type 0
+Affordable row = (row .«customer_margin» ≤ most-amount) × (row .«customer_debt» ≤ most-amount) × (row .«participant_debt» ≤ most-amount)
+
+abbrev pub Customerless : AccountRow → Type 0
+Customerless row = (row .«customer_margin» ≡ 0) × (row .«customer_debt» ≡ 0)
+
+pub record RowAllowed (account : ℕ) (row : AccountRow) : Type 0 where
+  pub counts : Countable (row .counts)
+  pub amounts : Affordable row
+  pub house-row : account < participants → Customerless row
 
 -- a row with nothing in it
 abbrev pub empty-row : AccountRow

@@ -56,9 +56,12 @@ impl Refusal {
             Refusal::FileTooLong => "the file has more than 65,536 bytes",
             Refusal::UnknownKind => "the file has an order of an unknown kind",
             Refusal::BodyCutShort => "the file ends inside an order",
-            Refusal::AnswerListTooShort => "the answer list has fewer places than the file has orders",
-            Refusal::WrongAccount => "the account does not exist, is not open, or cannot be meant here",
-            Refusal::WrongParticipant => "the participant does not exist, or the accounts are under two of them",
+            Refusal::AnswerListTooShort =>
+                "the answer list has fewer places than the file has orders",
+            Refusal::WrongAccount =>
+                "the account does not exist, is not open, or cannot be meant here",
+            Refusal::WrongParticipant =>
+                "the participant does not exist, or the accounts are under two of them",
             Refusal::WrongPocket => "the account has no such pocket, or it may not pay here",
             Refusal::WrongAsset => "the asset does not exist, or is yen, which is never marked",
             Refusal::OutOfRange => "a number is outside its limits",

@@ -1,3 +1,6 @@
+ghost use mathlib.Core.Path.{_≡_};
+ghost use Rattle.rules.specs.States.{empty-row};
+
 /// The open lots of one account, contract by contract: bought (long) and sold (short).
 #[derive(Clone, Copy)]
 pub struct Counts {
@@ -15,4 +18,21 @@ pub struct AccountRow {
     pub customer_debt: u64,
     /// What the participant owes the clearing house on this account, in yen.
     pub participant_debt: u64,
+}
+
+impl AccountRow {
+    /// A row with nothing in it.
+    pub fn empty() -> AccountRow
+        ensures { λ r. ⌜ r ≡ empty-row ⌝ }
+    {
+        AccountRow {
+            counts: Counts {
+                long: [0; 8],
+                short: [0; 8],
+            },
+            customer_margin: 0,
+            customer_debt: 0,
+            participant_debt: 0,
+        }
+    }
 }

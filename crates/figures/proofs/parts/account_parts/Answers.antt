@@ -10,7 +10,7 @@ pub returns-then-account-from : need.returns-then-account-from
 unfolding pooled rest from-customer
 returns-then-account-from g c =
     let allowed = g .L·Ledger .laws .rows (c .args .ledger .now) (c .args .account) in
-    let debt : c .row-row .result .«participant_debt» ≤ most-amount = rw (c .row-row .ensures) (allowed .3) in
+    let debt : c .row-row .result .«participant_debt» ≤ most-amount = rw (c .row-row .ensures) (allowed .amounts .2) in
     record { value = search needs; small = (c .pocket-value-direct .ensures .small, (debt, (omega arith, omega arith))) }
 
 pub returns : need.returns
@@ -20,5 +20,5 @@ returns g c =
     let row = c .row-row .result in
     record {
       value = search needs;
-      small = shares-most _ _ row _ (c .share-out-shares .ensures) (c .pocket-value .ensures .small) (rw (c .row-row .ensures) (allowed .2)) (rw (c .row-row .ensures) (allowed .3));
+      small = shares-most _ _ row _ (c .share-out-shares .ensures) (c .pocket-value .ensures .small) (rw (c .row-row .ensures) (allowed .amounts .1)) (rw (c .row-row .ensures) (allowed .amounts .2));
     }

@@ -14,11 +14,16 @@ loop-account-holds g c = search (needs, sum-none)
 pub loop-account-again : need.loop-account-again
 loop-account-again g c =
     let e = c .parts-under-more .ensures .value in
-    let i = c .loop-account .inv in
-    (sum-turn _ _ _ _ (i .0) (ap (λ (p : Parts). p .pool) e), omega arith,
-     sum-turn _ _ _ _ (i .2) (ap (λ (p : Parts). p .charge) e), omega arith,
-     sum-turn _ _ _ _ (i .4) (ap (λ (p : Parts). p .kept) e), omega arith,
-     sum-turn _ _ _ _ (i .6) (ap (λ (p : Parts). p .«passed_on») e), omega arith)
+    let i = c .loop-account .inv in (
+      sum-turn _ _ _ _ (i .0) (ap (λ (p : Parts). p .pool) e),
+      omega arith,
+      sum-turn _ _ _ _ (i .2) (ap (λ (p : Parts). p .charge) e),
+      omega arith,
+      sum-turn _ _ _ _ (i .4) (ap (λ (p : Parts). p .kept) e),
+      omega arith,
+      sum-turn _ _ _ _ (i .6) (ap (λ (p : Parts). p .«passed_on») e),
+      omega arith,
+    )
 
 -- the sums once all accounts are gone through
 all : (n x : ℕ) (f : ℕ → ℕ) → n ≡ accounts → x ≡ sum n f → x ≡ sum accounts f
