@@ -1,4 +1,28 @@
+ghost use mathlib.Core.Path.{_≡_};
+ghost use Rattle.rules.specs.States.{made, known};
+ghost use Rattle.book.specs.States.{state-of, terms-of, lawful};
+use crate::limits::amounts_out_of_range;
+use crate::limits::is_house;
+use crate::limits::no_such_pocket;
+use crate::limits::units_out_of_range;
+use crate::orders::MarginBook;
+use crate::reading::BookLedger;
 use crate::records::Records;
+use custody::custodian::Custodian;
+use custody::custodian::RefusalFromPut;
+use figures::claims::customer_figures;
+use figures::claims::participant_figures;
+use figures::ledger::Ledger;
+use margin::method::MarginMethod;
+use rules::boxes::box_number;
+use rules::refusal::Refusal;
+use rules::sizes::ACCOUNTS;
+use rules::sizes::ASSETS;
+use rules::sizes::BOXES;
+use rules::sizes::MOST_HAIRCUT;
+use rules::sizes::MOST_PRICE;
+use rules::sizes::PARTICIPANTS;
+use rules::standing::Standing;
 
 /// A margin book over a custodian and two margin methods, one for house and one for customer accounts. Nothing of it
 /// can be reached but by its orders and questions.
@@ -8,4 +32,131 @@ pub struct Book<Custody, HouseMethod, CustomerMethod> {
     pub(crate) house: HouseMethod,
     pub(crate) customers: CustomerMethod,
     pub(crate) records: Records,
+}
+
+impl<Custody: Custodian, HouseMethod: MarginMethod, CustomerMethod: MarginMethod> Book<
+    Custody,
+    HouseMethod,
+    CustomerMethod,
+> {
+    /// Clears the custodian and makes an empty book over it. The first method sets the margin of house accounts, the
+    /// second that of customer accounts.
+    pub fn new(mut custody: Custody, house: HouseMethod, customers: CustomerMethod) -> Self
+        ensures state { λ r. ⌜ state-of (r .records) (Custody·Custodian .boxes (r .custody)) ≡ made ⌝ }
+        ensures terms { λ r. ⌜ terms-of (Custody·Custodian .boxes (r .custody)) (HouseMethod·MarginMethod .amount (r .house)) (CustomerMethod·MarginMethod .amount (r .customers)) ≡ terms-of (Custody·Custodian .boxes custody) (HouseMethod·MarginMethod .amount house) (CustomerMethod·MarginMethod .amount customers) ⌝ }
+    {
+        custody.clear();
+        Book {
+            custody,
+            house,
+            customers,
+            records: Records::fresh(),
+        }
+    }
+
+    /// Whether orders may name an account: a house account, or a customer account that is open.
+    fn knows(&self, account: u16) -> bool
+        ensures { λ r. ⌜ r ≡ known (state-of (now (self .entry) .records) (Custody·Custodian .boxes (now (self .entry) .custody))) account ⌝ }
+    {
+        account < ACCOUNTS && self.owner(account).is_some()
+    }
+}
+
+pub impl<
+    Custody: Custodian,
+    HouseMethod: MarginMethod,
+    CustomerMethod: MarginMethod,
+> MarginBook for Book<Custody, HouseMethod, CustomerMethod> as BookOrders {
+    ghost terms = { λ book. terms-of (Custody·Custodian .boxes (book .custody)) (HouseMethod·MarginMethod .amount (book .house)) (CustomerMethod·MarginMethod .amount (book .customers)) };
+
+    ghost state = { λ book. state-of (book .records) (Custody·Custodian .boxes (book .custody)) };
+
+    ghost laws = { λ book. lawful (Custody·Custodian .boxes) (Custody·Custodian .laws) (book .custody) (HouseMethod·MarginMethod .amount (book .house)) (CustomerMethod·MarginMethod .amount (book .customers)) (HouseMethod·MarginMethod .laws (book .house)) (CustomerMethod·MarginMethod .laws (book .customers)) };
+
+    fn open(&mut self, account: u16, participant: u8) -> Result<(), Refusal> {
+        if is_house(account) || account >= ACCOUNTS {
+            return Err(Refusal::WrongAccount);
+        }
+        if let Some(_) = self.records.opened[account as usize] {
+            return Err(Refusal::WrongAccount);
+        }
+        if participant >= PARTICIPANTS {
+            return Err(Refusal::WrongParticipant);
+        }
+        let Standing::Active = self.records.standings[participant as usize] else {
+            return Err(Refusal::WrongStanding);
+        };
+        self.records.opened[account as usize] = Some(participant);
+        Ok(())
+    }
+
+    fn mark(&mut self, asset: u8, price: u32, haircut: u16) -> Result<(), Refusal> {
+        if asset == 0 || asset >= ASSETS {
+            return Err(Refusal::WrongAsset);
+        }
+        if price > MOST_PRICE || haircut > MOST_HAIRCUT {
+            return Err(Refusal::OutOfRange);
+        }
+        self.records.prices[asset as usize] = price;
+        self.records.haircuts[asset as usize] = haircut;
+        Ok(())
+    }
+
+    fn declare(
+        &mut self,
+        account: u16,
+        customer_margin: u64,
+        customer_debt: u64,
+        participant_debt: u64,
+    ) -> Result<(), Refusal> {
+        if !self.knows(account) {
+            return Err(Refusal::WrongAccount);
+        }
+        if amounts_out_of_range(account, customer_margin, customer_debt, participant_debt) {
+            return Err(Refusal::OutOfRange);
+        }
+        self.records
+            .table
+            .declare(account, customer_margin, customer_debt, participant_debt);
+        Ok(())
+    }
+
+    fn deposit(&mut self, account: u16, pocket: u8, asset: u8, units: u64) -> Result<(), Refusal> {
+        if !self.knows(account) {
+            return Err(Refusal::WrongAccount);
+        }
+        if no_such_pocket(account, pocket) {
+            return Err(Refusal::WrongPocket);
+        }
+        if asset >= ASSETS {
+            return Err(Refusal::WrongAsset);
+        }
+        if units_out_of_range(units) {
+            return Err(Refusal::OutOfRange);
+        }
+        self.custody.put(box_number(account, pocket, asset), units)?;
+        Ok(())
+    }
+
+    fn customer(&self, account: u16) -> Result<(u64, u64), Refusal> {
+        if is_house(account) || !self.knows(account) {
+            return Err(Refusal::WrongAccount);
+        }
+        Ok(customer_figures(self, account))
+    }
+
+    fn participant(&self, participant: u8) -> Result<(u64, u64), Refusal> {
+        if participant >= PARTICIPANTS {
+            return Err(Refusal::WrongParticipant);
+        }
+        Ok(participant_figures(self, participant))
+    }
+
+    fn held(&self, box_number: usize) -> u64 {
+        if box_number < BOXES {
+            self.custody.held(box_number)
+        } else {
+            0
+        }
+    }
 }

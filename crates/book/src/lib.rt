@@ -7,4 +7,3 @@ mod reading;
 mod records;
 mod rows;
 mod table;
-mod taking;

@@ -1,7 +1,9 @@
 ghost use mathlib.Core.Path.{_≡_};
 ghost use denote.Ref.{name, now};
 ghost use Rattle.custody.specs.Moves.{Cleared, Put, Take};
-ghost use Rattle.custody.specs.Registers.{register as register-of, cleared-cells, put-cells, take-cells, register-lawful};
+ghost use lib.Dec.{ltb};
+ghost use lib.ListN.{length};
+ghost use Rattle.custody.specs.Registers.{served, register as register-of, cleared-cells, put-cells, take-cells, register-lawful};
 use crate::custodian::Custodian;
 use crate::custodian::PutRefusal;
 use crate::custodian::TakeRefusal;
@@ -23,6 +25,13 @@ impl<'a> NumberRegister<'a> {
     {
         NumberRegister { cells }
     }
+
+    /// Whether a box has its number in the memory.
+    fn serves(&self, box_number: usize) -> bool
+        ensures { λ r. ⌜ r ≡ ltb «box_number» (served (length (now (now (self .entry) .cells)))) ⌝ }
+    {
+        box_number < BOXES && box_number < self.cells.len()
+    }
 }
 
 pub impl Custodian for NumberRegister<'_> as RegisterCustodian {
@@ -40,7 +49,7 @@ pub impl Custodian for NumberRegister<'_> as RegisterCustodian {
     }
 
     fn held(&self, box_number: usize) -> u64 {
-        if box_number < BOXES && box_number < self.cells.len() {
+        if self.serves(box_number) {
             self.cells[box_number].min(MOST_UNITS)
         } else {
             0
@@ -48,11 +57,7 @@ pub impl Custodian for NumberRegister<'_> as RegisterCustodian {
     }
 
     fn limit(&self, box_number: usize) -> u64 {
-        if box_number < BOXES && box_number < self.cells.len() {
-            MOST_UNITS
-        } else {
-            0
-        }
+        if self.serves(box_number) { MOST_UNITS } else { 0 }
     }
 
     fn put(&mut self, box_number: usize, units: u64) -> Result<(), PutRefusal>

@@ -1,6 +1,6 @@
 use borrow.Author.Needs.{needs}
 use Rattle.rules.specs.Figures.{ask-participant}
-use Rattle.book.proofs.taking.BookOrders.participant.Needs as need
+use Rattle.book.proofs.book.BookOrders.participant.Needs as need
 
 pub returns-then-participant-ge-PARTICIPANTS : need.returns-then-participant-ge-PARTICIPANTS
 unfolding ask-participant

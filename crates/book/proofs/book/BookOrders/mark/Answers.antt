@@ -6,7 +6,7 @@ use native.Mathlib.Omega.{arith}
 use Rattle.std.proofs.shelf.Lists.{getD-set-other}
 use Rattle.rules.specs.Sizes.{most-price}
 use Rattle.book.proofs.Writes.{each-set}
-use Rattle.book.proofs.taking.BookOrders.mark.Needs as need
+use Rattle.book.proofs.book.BookOrders.mark.Needs as need
 
 pub ghost-self : need.ghost-self
 ghost-self g c =

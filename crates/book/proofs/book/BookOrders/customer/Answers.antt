@@ -1,6 +1,6 @@
 use borrow.Author.Needs.{needs}
 use Rattle.rules.specs.Figures.{ask-customer}
-use Rattle.book.proofs.taking.BookOrders.customer.Needs as need
+use Rattle.book.proofs.book.BookOrders.customer.Needs as need
 
 pub returns-then-is-house : need.returns-then-is-house
 unfolding ask-customer
