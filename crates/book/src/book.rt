@@ -24,8 +24,8 @@ use rules::sizes::MOST_PRICE;
 use rules::sizes::PARTICIPANTS;
 use rules::standing::Standing;
 
-/// A margin book over a custodian and two margin methods, one for house and one for customer accounts. Nothing of it
-/// can be reached but by its orders and questions.
+/// A margin book over a custodian and two margin methods: the first sets the margin of house accounts, the second that
+/// of customers'. Nothing of it can be reached but by its orders and questions.
 #[derive(Drop)]
 pub struct Book<Custody, HouseMethod, CustomerMethod> {
     pub(crate) custody: Custody,

@@ -1,9 +1,8 @@
 ghost use mathlib.Core.Path.{_≡_};
 ghost use denote.Ref.{name, now};
 ghost use Rattle.custody.specs.Moves.{Cleared, Put, Take};
-ghost use lib.Dec.{ltb};
 ghost use lib.ListN.{length};
-ghost use Rattle.custody.specs.Registers.{served, register as register-of, cleared-cells, put-cells, take-cells, register-lawful};
+ghost use Rattle.custody.specs.Registers.{served as served-of, register as register-of, cleared-cells, put-cells, take-cells, register-lawful};
 use crate::custodian::Custodian;
 use crate::custodian::PutRefusal;
 use crate::custodian::TakeRefusal;
@@ -26,11 +25,11 @@ impl<'a> NumberRegister<'a> {
         NumberRegister { cells }
     }
 
-    /// Whether a box has its number in the memory.
-    fn serves(&self, box_number: usize) -> bool
-        ensures { λ r. ⌜ r ≡ ltb «box_number» (served (length (now (now (self .entry) .cells)))) ⌝ }
+    /// How many boxes have their number in the memory.
+    fn served(&self) -> usize
+        ensures { λ r. ⌜ r ≡ served-of (length (now (now (self .entry) .cells))) ⌝ }
     {
-        box_number < BOXES && box_number < self.cells.len()
+        self.cells.len().min(BOXES)
     }
 }
 
@@ -44,12 +43,12 @@ pub impl Custodian for NumberRegister<'_> as RegisterCustodian {
         ensures memory { λ _. ⌜ now (now (self .exit) .cells) ≡ cleared-cells (now (now (self .entry) .cells)) ⌝ }
         ensures lent { λ _. ⌜ name (now (self .exit) .cells) ≡ name (now (self .entry) .cells) ⌝ }
     {
-        let served = self.cells.len().min(BOXES);
+        let served = self.served();
         self.cells[0..served].fill(0);
     }
 
     fn held(&self, box_number: usize) -> u64 {
-        if self.serves(box_number) {
+        if box_number < self.served() {
             self.cells[box_number].min(MOST_UNITS)
         } else {
             0
@@ -57,7 +56,8 @@ pub impl Custodian for NumberRegister<'_> as RegisterCustodian {
     }
 
     fn limit(&self, box_number: usize) -> u64 {
-        if self.serves(box_number) { MOST_UNITS } else { 0 }
+        let has_number = box_number < self.served();
+        if has_number { MOST_UNITS } else { 0 }
     }
 
     fn put(&mut self, box_number: usize, units: u64) -> Result<(), PutRefusal>

@@ -3,7 +3,7 @@ use mathlib.Core.Bool.{Bool, cond}
 use Prim.Native.Nat.{ℕ}
 use Rattle.rules.specs.declared.row.AccountRow.{AccountRow}
 use Rattle.rules.specs.Claims.{own-pool-of, excess-of, withheld-of, claim-of, kept-of, passed-on-of, rest-of}
-use Rattle.rules.specs.Figures.{over, from-customer, pooled, rest, kept, passed-on, pool, charge}
+use Rattle.rules.specs.Figures.{over, from-customer, claim, withheld, excess, pooled, rest, kept, passed-on, pool, charge}
 use Rattle.rules.specs.States.{State, under, is}
 use Rattle.figures.specs.declared.shares.Shares.{Shares}
 use Rattle.figures.specs.declared.parts.Parts.{Parts}
@@ -21,6 +21,17 @@ shares-of direct replacement row =
       rest = rest-of withheld row;
       excess = excess-of replacement row;
     }
+
+-- the same by the figures of a state
+abbrev pub customer-shares : State → ℕ → Shares
+customer-shares s account = record {
+  claim = claim s account;
+  withheld = withheld s account;
+  kept = kept s account;
+  «passed_on» = passed-on s account;
+  rest = rest-of (withheld s account) (s .rows account);
+  excess = excess s account;
+}
 
 -- what an account adds to each of its participant's sums
 abbrev pub parts-of : State → ℕ → Parts

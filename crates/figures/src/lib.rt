@@ -4,4 +4,5 @@ pub mod claims;
 pub mod ledger;
 mod parts;
 mod shares;
+mod tiers;
 mod values;

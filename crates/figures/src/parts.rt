@@ -6,7 +6,7 @@ ghost use Rattle.rules.specs.States.{under, is};
 ghost use Rattle.figures.specs.Bounds.{most-pocket};
 ghost use Rattle.figures.specs.Parts.{parts-of, parts-under, total-parts};
 use crate::ledger::Ledger;
-use crate::shares::share_out;
+use crate::shares::customer_shares;
 use crate::values::pocket_value;
 use rules::sizes::ACCOUNTS;
 use rules::sizes::PARTICIPANTS;
@@ -29,17 +29,15 @@ fn account_parts<L: Ledger>(ledger: &L, account: u16) -> Parts
     ensures value { λ r. ⌜ r ≡ parts-of (L·Ledger .state (now (ledger .entry))) account ⌝ }
     ensures small { λ r. ⌜ r .pool ≤ most-pocket ⌝ ∗ ⌜ r .charge ≤ most-amount ⌝ ∗ ⌜ r .kept ≤ most-amount ⌝ ∗ ⌜ r .«passed_on» ≤ most-amount ⌝ }
 {
-    let row = ledger.row(account);
-    let direct = pocket_value(ledger, account, 0);
     if account < u16::from(PARTICIPANTS) {
         return Parts {
-            pool: direct,
-            charge: row.participant_debt,
+            pool: pocket_value(ledger, account, 0),
+            charge: ledger.row(account).participant_debt,
             kept: 0,
             passed_on: 0,
         };
     }
-    let shares = share_out(direct, pocket_value(ledger, account, 1), &row);
+    let shares = customer_shares(ledger, account);
     Parts {
         pool: shares.excess,
         charge: shares.rest,

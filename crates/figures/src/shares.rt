@@ -1,7 +1,11 @@
 ghost use mathlib.Core.Path.{_≡_};
 ghost use Prim.Native.Nat.{ℕ, _≤_};
+ghost use Rattle.rules.specs.Sizes.{most-amount};
 ghost use Rattle.figures.specs.Bounds.{most-pocket};
-ghost use Rattle.figures.specs.Parts.{shares-of};
+ghost use Rattle.figures.specs.Parts.{shares-of, customer-shares};
+use crate::ledger::Ledger;
+use crate::tiers::split;
+use crate::values::pocket_value;
 use rules::row::AccountRow;
 
 /// How what is deposited for a customer account is shared out, in yen.
@@ -22,20 +26,33 @@ pub(crate) struct Shares {
 }
 
 /// Shares out the market values of the two pockets of a customer account, tier by tier.
-pub(crate) fn share_out(direct: u64, replacement: u64, row: &AccountRow) -> Shares
+fn share_out(direct: u64, replacement: u64, row: &AccountRow) -> Shares
     requires { ⌜ direct ≤ most-pocket ⌝ ∗ ⌜ replacement ≤ most-pocket ⌝ }
     ensures { λ r. ⌜ r ≡ shares-of direct replacement (now (row .entry)) ⌝ }
 {
-    let replaced = replacement.min(row.customer_margin);
-    let own_pool = direct + replaced;
-    let withheld = own_pool.min(row.customer_debt);
-    let kept = withheld.min(row.participant_debt);
+    let (excess, replaced) = split(replacement, row.customer_margin);
+    let (claim, withheld) = split(direct + replaced, row.customer_debt);
+    let (passed_on, kept) = split(withheld, row.participant_debt);
+    let (rest, _) = split(row.participant_debt, withheld);
     Shares {
-        claim: own_pool - withheld,
+        claim,
         withheld,
         kept,
-        passed_on: withheld - kept,
-        rest: row.participant_debt - kept,
-        excess: replacement - replaced,
+        passed_on,
+        rest,
+        excess,
     }
+}
+
+/// How what is deposited for a customer account is shared out.
+pub(crate) fn customer_shares<L: Ledger>(ledger: &L, account: u16) -> Shares
+    ensures value { λ r. ⌜ r ≡ customer-shares (L·Ledger .state (now (ledger .entry))) account ⌝ }
+    ensures small { λ r. ⌜ r .excess ≤ most-pocket ⌝ ∗ ⌜ r .rest ≤ most-amount ⌝ ∗ ⌜ r .kept ≤ most-amount ⌝ ∗ ⌜ r .«passed_on» ≤ most-amount ⌝ }
+{
+    let row = ledger.row(account);
+    share_out(
+        pocket_value(ledger, account, 0),
+        pocket_value(ledger, account, 1),
+        &row,
+    )
 }

@@ -88,11 +88,11 @@ abbrev pub Amounts : Type 0
 Amounts = Result (ℕ × ℕ) Refusal
 
 -- of a customer account: the customer's claim, and the sum withheld
-unfoldable pub ask-customer : State → ℕ → Amounts
+abbrev pub ask-customer : State → ℕ → Amounts
 ask-customer s account = answered ((WrongAccount, house account || not (known s account)) ∷ []) (claim s account, withheld s account)
 
 -- of a participant: its claim, and the sum retained
-unfoldable pub ask-participant : State → ℕ → Amounts
+abbrev pub ask-participant : State → ℕ → Amounts
 ask-participant s participant =
     answered ((WrongParticipant, not (ltb participant participants)) ∷ []) (participant-claim s participant, retained s participant)
 

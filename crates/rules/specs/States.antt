@@ -22,7 +22,7 @@ pub record State : Type 0 where
   pub held : ℕ → ℕ  -- by box number: the units that the custodian holds
 
 -- What a book is made over and keeps for good: how many units the custodian lets each box hold, and the maintenance
--- amount that each of the two margin methods asks for counts, one for house and one for customer accounts.
+-- amount that each of two margin methods asks for counts: the first of house accounts, the second of customers'.
 pub record Terms : Type 0 where
   pub limit : ℕ → ℕ  -- by box number
   pub house-amount : Counts → ℕ

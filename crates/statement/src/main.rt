@@ -7,8 +7,8 @@ mod entry;
 mod parties;
 
 use book::book::Book;
-use book::orders::MarginBook;
 use book::book::BookOrders;
+use book::orders::MarginBook;
 use custody::custodian::Custodian;
 use custody::register::NumberRegister;
 use custody::register::RegisterCustodian;

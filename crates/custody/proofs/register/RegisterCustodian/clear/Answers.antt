@@ -9,7 +9,7 @@ use Rattle.custody.proofs.register.RegisterCustodian.clear.Needs as need
 pub returns : need.returns
 returns c =
     let cells : List ℕ = c .args .self .now .cells .now in
-    let m = filled cells (c .fill .last .self) (c .min-served .result) (c .min-served .ensures) (c .fill .ensures .after (λ y p. p)) in
+    let m = filled cells (c .fill .last .self) (c .served-served .result) (c .served-served .ensures) (c .fill .ensures .after (λ y p. p)) in
     record {
       moved = subst (λ (l : List ℕ). Cleared (register cells) (register l)) (sym m) (register-cleared cells);
       memory = m;
