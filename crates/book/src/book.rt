@@ -1,6 +1,7 @@
 ghost use mathlib.Core.Path.{_≡_};
 ghost use Rattle.rules.specs.States.{made, known};
-ghost use Rattle.book.specs.States.{state-of, terms-of, lawful};
+ghost use Rattle.book.specs.States.{state-of, terms-of};
+ghost use Rattle.book.specs.BookLaws.{lawful};
 use crate::limits::amounts_out_of_range;
 use crate::limits::is_house;
 use crate::limits::no_such_pocket;

@@ -1,5 +1,6 @@
 ghost use mathlib.Core.Path.{_≡_};
-ghost use Rattle.book.specs.States.{state-of, bounded};
+ghost use Rattle.book.specs.States.{state-of};
+ghost use Rattle.book.specs.BookLaws.{bounded};
 use crate::book::Book;
 use crate::limits::is_house;
 use custody::custodian::Custodian;

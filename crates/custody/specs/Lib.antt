@@ -1,3 +1,4 @@
 pub mod Boxes
 pub mod Moves
 pub mod Registers
+pub mod RegisterLaws

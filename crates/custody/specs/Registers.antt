@@ -1,15 +1,12 @@
 -- The number register: what a memory of numbers means as boxes, and what it holds after each call. The number at
 -- place b of the memory is that of box b.
-use mathlib.Core.Path.{_≡_}
-use mathlib.Core.Bool.{cond, true, false}
+use mathlib.Core.Bool.{cond}
 use mathlib.Core.List.{List, _++_}
-use Prim.Native.Nat.{ℕ, _+_, _-_, _≤_, min}
-use native.Mathlib.Omega.{arith}
+use Prim.Native.Nat.{ℕ, _+_, _-_, min}
 use lib.Dec.{ltb, eqb}
 use lib.ListN.{length, getD, set, drop, replicate}
-use Rattle.std.proofs.shelf.Tests.{le-ltb}
 use Rattle.rules.specs.Sizes.{boxes as box-count, most-units}
-use Rattle.custody.specs.Boxes.{Boxes, Lawful}
+use Rattle.custody.specs.Boxes.{Boxes}
 use Rattle.custody.specs.Moves.{passes-limit, passes-holding}
 
 -- how many boxes a memory with room for so many serves
@@ -34,17 +31,3 @@ put-cells cells b units = cond (passes-limit (register cells) b units) cells (co
 
 abbrev pub take-cells : List ℕ → (b units : ℕ) → List ℕ
 take-cells cells b units = cond (passes-holding (register cells) b units) cells (cond (eqb units 0) cells (set cells b (register cells .held b - units)))
-
--- That such boxes keep the laws of a custodian.
-pub limit-bounded : (room b : ℕ) → limit-of room b ≤ most-units
-limit-bounded room b = elim (ltb b (served room)) as (λ t. cond t most-units 0 ≤ most-units) [ true ↦ omega arith | false ↦ omega arith ]
-
-pub no-limit-beyond : (room b : ℕ) → box-count ≤ b → limit-of room b ≡ 0
-no-limit-beyond room b h = let f : ltb b (served room) ≡ false = le-ltb b (served room) (omega arith) in rw f
-
-pub register-lawful : {S : Type 0} (cells : S → List ℕ) → Lawful (λ s. register (cells s))
-register-lawful cells = record {
-  bounded = λ s. limit-bounded (length (cells s));
-  none-beyond = λ s. no-limit-beyond (length (cells s));
-  within = λ s b. omega arith;
-}

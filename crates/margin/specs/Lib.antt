@@ -1,3 +1,4 @@
 pub mod Counted
 pub mod Rates
 pub mod Nets
+pub mod NetLaws

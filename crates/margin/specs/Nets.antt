@@ -1,16 +1,10 @@
 -- Net margin: long and short lots of a contract are set off against each other, and what is left of either asks its
 -- rate for each lot.
-use mathlib.Core.Path.{_≡_, refl}
 use mathlib.Core.List.{List}
-use Prim.Native.Nat.{ℕ, zero, suc, _+_, _-_, _*_, _≤_, _<_}
-use native.Mathlib.Nat.{mul-le-mul, zero-mul}
-use native.Mathlib.Omega.{arith}
-use lib.ListN.{getD, replicate}
+use Prim.Native.Nat.{ℕ, _+_, _-_, _*_}
+use lib.ListN.{getD}
 use Rattle.rules.specs.declared.row.Counts.{Counts}
-use Rattle.rules.specs.Sizes.{contracts, most-count, sum}
-use Rattle.rules.specs.States.{Countable, LawfulMethod, flat}
-use Rattle.rules.proofs.Sums.{sum-zero, sum-most}
-use Rattle.margin.specs.Rates.{most-rate, Fair}
+use Rattle.rules.specs.Sizes.{contracts, sum}
 use Rattle.margin.specs.declared.net.NetMargin.{NetMargin}
 
 -- how far two counts lie apart
@@ -27,24 +21,3 @@ net-amount rates counts = sum contracts (net-at rates counts)
 -- the rates that a method was made with
 abbrev pub rates-of : NetMargin → List ℕ
 rates-of method = method .rates .each
-
--- The two laws of a margin method.
-pub net-at-most : (rates : List ℕ) → Fair rates → (counts : Counts) → Countable counts → (k : ℕ) → k < contracts → net-at rates counts k ≤ 10000000000000
-net-at-most rates fair counts few k h =
-    let a : apart (getD (counts .long) k 0) (getD (counts .short) k 0) ≤ most-count = omega (arith, few k h .0, few k h .1) in
-    mul-le-mul a (fair k)
-
-none-at : (n k : ℕ) → _≡_ {A = ℕ} (getD (replicate n 0) k 0) 0
-none-at zero k = refl
-none-at (suc n) zero = refl
-none-at (suc n) (suc k) = none-at n k
-
-flat-at : (rates : List ℕ) (k : ℕ) → k < contracts → net-at rates flat k ≡ 0
-flat-at rates k h = rw (none-at contracts k, zero-mul (getD rates k 0))
-
-pub net-lawful : (method : NetMargin) → LawfulMethod (net-amount (rates-of method))
-unfolding net-amount
-net-lawful method = record {
-  none-when-flat = sum-zero contracts (net-at (rates-of method) flat) (flat-at (rates-of method));
-  bounded = λ counts few. omega (arith, sum-most contracts 10000000000000 (net-at (rates-of method) counts) (net-at-most (rates-of method) (method .rates .fair) counts few));
-}

@@ -1,7 +1,8 @@
 ghost use mathlib.Core.Path.{_≡_};
 ghost use Prim.Native.Nat.{_*_};
 ghost use Rattle.margin.specs.Rates.{clamped};
-ghost use Rattle.margin.specs.Nets.{apart, net-amount, rates-of, net-lawful};
+ghost use Rattle.margin.specs.Nets.{apart, net-amount, rates-of};
+ghost use Rattle.margin.specs.NetLaws.{net-lawful};
 use crate::counts::BoundedCounts;
 use crate::method::MarginMethod;
 use crate::rates::Rates;

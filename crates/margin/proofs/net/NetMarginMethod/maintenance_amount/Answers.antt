@@ -2,7 +2,8 @@ use borrow.Author.Needs.{needs}
 use native.Mathlib.Omega.{arith}
 use Prim.Native.Nat.{_≤_}
 use Rattle.rules.proofs.Sums.{sum-none, sum-turn}
-use Rattle.margin.specs.Nets.{net-amount, net-at-most}
+use Rattle.margin.specs.Nets.{net-amount}
+use Rattle.margin.specs.NetLaws.{net-at-most}
 use Rattle.margin.proofs.net.NetMarginMethod.maintenance_amount.Needs as need
 
 -- what a turn adds
