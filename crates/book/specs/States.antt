@@ -5,6 +5,7 @@ use Rattle.std.specs.declared.option.Option.the-variants.{None}
 use Rattle.rules.specs.declared.row.Counts.{Counts}
 use Rattle.rules.specs.declared.row.AccountRow.{AccountRow}
 use Rattle.rules.specs.declared.standing.Standing.the-variants.{Active}
+use Rattle.rules.specs.Sizes.{most-haircut}
 use Rattle.rules.specs.States.{State, Terms, empty-row}
 use Rattle.custody.specs.Boxes as custodian
 use Rattle.book.specs.declared.table.AccountTable.{AccountTable}
@@ -20,7 +21,7 @@ state-of records boxes = record {
   opened = λ account. getD (records .opened) account None;
   standing = λ participant. getD (records .standings) participant Active;
   price = λ asset. getD (records .prices) asset 0;
-  haircut = λ asset. getD (records .haircuts) asset 1000;
+  haircut = λ asset. getD (records .haircuts) asset most-haircut;
   held = boxes .held;
 }
 

@@ -7,7 +7,7 @@ use Rattle.std.specs.declared.option.Option.the-variants.{Some}
 use Rattle.rules.specs.declared.row.AccountRow.{AccountRow}
 use Rattle.rules.specs.declared.refusal.Refusal.{Refusal}
 use Rattle.rules.specs.declared.refusal.Refusal.the-variants.{WrongAccount, WrongParticipant, WrongPocket, WrongAsset, OutOfRange, WrongStanding, OverLimit}
-use Rattle.rules.specs.Sizes.{accounts, participants, most-units, most-amount, most-price, most-haircut, box, house, put}
+use Rattle.rules.specs.Sizes.{accounts, participants, pockets, assets, most-units, most-amount, most-price, most-haircut, box, house, put}
 use Rattle.rules.specs.Refusals.{Outcome, decided}
 use Rattle.rules.specs.States.{State, Terms, some?, known, is-active}
 
@@ -20,7 +20,7 @@ pub data Order : Type 0 where
 
 -- a house account has the direct pocket only
 abbrev pub no-such-pocket : (account pocket : ℕ) → Bool
-no-such-pocket account pocket = ltb 1 pocket || (house account && not (eqb pocket 0))
+no-such-pocket account pocket = not (ltb pocket pockets) || (house account && not (eqb pocket 0))
 
 -- units that an order may move are 1 to 10^11
 abbrev pub units-out-of-range : ℕ → Bool
@@ -39,7 +39,7 @@ tests T s (opening account participant) =
     (WrongParticipant, not (ltb participant participants)) ∷
     (WrongStanding, not (is-active (s .standing participant))) ∷ []
 tests T s (mark asset price haircut) =
-    (WrongAsset, eqb asset 0 || ltb 3 asset) ∷
+    (WrongAsset, eqb asset 0 || not (ltb asset assets)) ∷
     (OutOfRange, ltb most-price price || ltb most-haircut haircut) ∷ []
 tests T s (declare account customer-margin customer-debt participant-debt) =
     (WrongAccount, not (known s account)) ∷
@@ -47,7 +47,7 @@ tests T s (declare account customer-margin customer-debt participant-debt) =
 tests T s (deposit account pocket asset units) =
     (WrongAccount, not (known s account)) ∷
     (WrongPocket, no-such-pocket account pocket) ∷
-    (WrongAsset, ltb 3 asset) ∷
+    (WrongAsset, not (ltb asset assets)) ∷
     (OutOfRange, units-out-of-range units) ∷
     (OverLimit, ltb (T .limit (box account pocket asset)) (s .held (box account pocket asset) + units)) ∷ []
 

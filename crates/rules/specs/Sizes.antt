@@ -12,6 +12,10 @@ accounts = 64
 abbrev pub participants : ℕ
 participants = 8
 
+-- pockets 0 and 1: direct and replacement margin
+abbrev pub pockets : ℕ
+pockets = 2
+
 -- assets 0 to 3: yen, foreign currency, bonds, shares
 abbrev pub assets : ℕ
 assets = 4
@@ -38,7 +42,7 @@ most-count = 1000000
 
 -- Deposits lie in boxes, one for each account, pocket and asset. Pocket 0 holds direct margin, which the customer
 -- placed with the clearing house itself; pocket 1 holds replacement margin, which the participant placed for the
--- customer. A box is known by its number.
+-- customer. A box is known by its number: eight boxes an account, four a pocket.
 abbrev pub box : (account pocket asset : ℕ) → ℕ
 box account pocket asset = account * 8 + (pocket * 4 + asset)
 

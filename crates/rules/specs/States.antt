@@ -11,7 +11,7 @@ use Rattle.rules.specs.declared.row.Counts.{Counts}
 use Rattle.rules.specs.declared.row.AccountRow.{AccountRow}
 use Rattle.rules.specs.declared.standing.Standing.{Standing}
 use Rattle.rules.specs.declared.standing.Standing.the-variants.{Active, Suspended, Settled}
-use Rattle.rules.specs.Sizes.{accounts, participants, contracts, boxes, most-units, most-amount, most-count, house}
+use Rattle.rules.specs.Sizes.{accounts, participants, contracts, boxes, most-units, most-amount, most-haircut, most-count, house}
 
 pub record State : Type 0 where
   pub rows : ℕ → AccountRow  -- by account: counts, customer margin and debts
@@ -74,7 +74,7 @@ made = record {
   opened = λ account. None;
   standing = λ participant. Active;
   price = λ asset. cond (eqb asset 0) 1 0;
-  haircut = λ asset. cond (eqb asset 0) 0 1000;
+  haircut = λ asset. cond (eqb asset 0) 0 most-haircut;
   held = λ b. 0;
 }
 

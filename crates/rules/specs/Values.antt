@@ -1,5 +1,5 @@
 -- What deposits are worth, in whole yen.
-use mathlib.Core.Bool.{_||_, cond}
+use mathlib.Core.Bool.{not, _||_, cond}
 use mathlib.Core.List.{[], _∷_}
 use Prim.Native.Nat.{ℕ, _-_, _*_, _/_}
 use lib.Dec.{ltb, eqb}
@@ -29,7 +29,7 @@ applied market-value haircut = market-value * (most-haircut - haircut) / most-ha
 -- Both as calls that refuse numbers outside their limits.
 abbrev pub market-answer : (asset price units : ℕ) → Result ℕ Refusal
 market-answer asset price units =
-    answered ((WrongAsset, ltb 3 asset) ∷ (OutOfRange, ltb most-price price || ltb most-units units) ∷ []) (market asset price units)
+    answered ((WrongAsset, not (ltb asset assets)) ∷ (OutOfRange, ltb most-price price || ltb most-units units) ∷ []) (market asset price units)
 
 abbrev pub applied-answer : (market-value haircut : ℕ) → Result ℕ Refusal
 applied-answer market-value haircut =
