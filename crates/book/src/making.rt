@@ -6,6 +6,9 @@ ghost use Rattle.book.specs.States.{rows-of, state-of};
 use crate::records::Records;
 use crate::table::AccountTable;
 use rules::row::AccountRow;
+use rules::sizes::ACCOUNTS_LEN;
+use rules::sizes::MOST_HAIRCUT;
+use rules::sizes::PARTICIPANTS_LEN;
 use rules::standing::Standing;
 
 impl AccountTable {
@@ -14,7 +17,7 @@ impl AccountTable {
         ensures { λ r. ⌜ rows-of r ≡ made .rows ⌝ }
     {
         AccountTable {
-            rows: [AccountRow::empty(); 64],
+            rows: [AccountRow::empty(); ACCOUNTS_LEN],
         }
     }
 }
@@ -26,10 +29,10 @@ impl Records {
     {
         Records {
             table: AccountTable::empty(),
-            opened: [None; 64],
-            standings: [Standing::Active; 8],
+            opened: [None; ACCOUNTS_LEN],
+            standings: [Standing::Active; PARTICIPANTS_LEN],
             prices: [1, 0, 0, 0],
-            haircuts: [0, 1000, 1000, 1000],
+            haircuts: [0, MOST_HAIRCUT, MOST_HAIRCUT, MOST_HAIRCUT],
         }
     }
 }

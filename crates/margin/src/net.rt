@@ -6,6 +6,7 @@ ghost use Rattle.margin.specs.NetLaws.{net-lawful};
 use crate::counts::BoundedCounts;
 use crate::method::MarginMethod;
 use crate::rates::Rates;
+use rules::sizes::CONTRACTS;
 
 /// What one contract asks: its long and short lots set off, and a rate for each lot that is left.
 fn set_off(long: u32, short: u32, rate: u32) -> u64
@@ -22,7 +23,7 @@ pub struct NetMargin {
 
 impl NetMargin {
     /// Takes the rate of each contract, in yen for a lot; a rate above 10,000,000 is taken as 10,000,000.
-    pub fn new(sheet: [u32; 8]) -> NetMargin
+    pub fn new(sheet: [u32; CONTRACTS]) -> NetMargin
         ensures { λ r. ⌜ rates-of r ≡ clamped sheet ⌝ }
     {
         NetMargin {

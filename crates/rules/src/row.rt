@@ -1,11 +1,12 @@
 ghost use mathlib.Core.Path.{_≡_};
 ghost use Rattle.rules.specs.States.{empty-row};
+use crate::sizes::CONTRACTS;
 
 /// The open lots of one account, contract by contract: bought (long) and sold (short).
 #[derive(Clone, Copy)]
 pub struct Counts {
-    pub long: [u32; 8],
-    pub short: [u32; 8],
+    pub long: [u32; CONTRACTS],
+    pub short: [u32; CONTRACTS],
 }
 
 /// What the book knows of one account beside its deposits. Both debts are not yet due.
@@ -27,8 +28,8 @@ impl AccountRow {
     {
         AccountRow {
             counts: Counts {
-                long: [0; 8],
-                short: [0; 8],
+                long: [0; CONTRACTS],
+                short: [0; CONTRACTS],
             },
             customer_margin: 0,
             customer_debt: 0,

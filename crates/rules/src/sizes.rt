@@ -32,3 +32,14 @@ pub const MOST_HAIRCUT: u16 = 1_000;
 
 /// The most lots that one count can be.
 pub const MOST_COUNT: u32 = 1_000_000;
+
+// The same numbers as lengths of arrays.
+
+/// `ACCOUNTS` as a length.
+pub const ACCOUNTS_LEN: usize = ACCOUNTS as usize;
+
+/// `PARTICIPANTS` as a length.
+pub const PARTICIPANTS_LEN: usize = PARTICIPANTS as usize;
+
+/// `ASSETS` as a length.
+pub const ASSETS_LEN: usize = ASSETS as usize;

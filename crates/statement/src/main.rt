@@ -19,10 +19,11 @@ use margin::net::NetMarginMethod;
 use parties::Parties;
 use parties::PartiesDisplay;
 use rules::sizes::BOXES;
+use rules::sizes::CONTRACTS;
 use std::error::AnyError;
 
 /// Yen of margin for a lot of each contract. (No account here has an open lot.)
-const RATES: [u32; 8] = [60_000; 8];
+const RATES: [u32; CONTRACTS] = [60_000; CONTRACTS];
 
 /// Works through the case on a fresh book over a custodian, and prints each order with its answer and then all claims.
 fn work_through<Custody: Custodian + Drop>(
