@@ -13,10 +13,10 @@ mod tests {
     use rules::refusal::RefusalPartialEq;
     use std::test::*;
 
-    /// One yen above the most that an amount can be.
+    // One yen above the most that an amount can be.
     const TOO_MUCH: u64 = 1_000_000_000_000_001;
 
-    /// The figures of the case that bad input must leave as they are.
+    // The figures of the case that bad input must leave as they are.
     fn as_before<B: MarginBook>(book: &B) -> Result<(), Fail> {
         check_eq(book.customer(8), Ok((50, 100)))?;
         check_eq(book.participant(0), Ok((20, 80)))?;
@@ -96,7 +96,7 @@ mod tests {
         all_bad(NumberRegister::new(&mut memory))
     }
 
-    /// Without memory every deposit is refused, and nothing else is.
+    // Without memory every deposit is refused, and nothing else is.
     fn no_room<Custody: Custodian + Drop>(custody: Custody) -> Result<(), Fail> {
         let method = NetMargin::new([60_000; 8]);
         let mut book = Book::new(custody, method, method);

@@ -12,7 +12,7 @@ mod tests {
     use rules::refusal::RefusalPartialEq;
     use std::test::*;
 
-    /// A direct deposit of yen on account 8, under participant 0, with a customer's and a participant's debt.
+    // A direct deposit of yen on account 8, under participant 0, with a customer's and a participant's debt.
     fn direct_deposit<Custody: Custodian + Drop>(
         custody: Custody,
         yen: u64,
@@ -56,7 +56,7 @@ mod tests {
         )
     }
 
-    /// Replacement margin beyond the customer margin, a house deposit and debts on both accounts; and a price.
+    // Replacement margin beyond the customer margin, a house deposit and debts on both accounts; and a price.
     fn replacement_margin<Custody: Custodian + Drop>(custody: Custody) -> Result<(), Fail> {
         let method = NetMargin::new([60_000; 8]);
         let mut book = Book::new(custody, method, method);

@@ -10,7 +10,7 @@ mod tests {
     use rules::row::Counts;
     use std::test::*;
 
-    /// Counts of contract 0, and of no other.
+    // Counts of contract 0, and of no other.
     fn first_contract(long: u32, short: u32) -> Result<BoundedCounts, Refusal> {
         BoundedCounts::new(Counts {
             long: [long, 0, 0, 0, 0, 0, 0, 0],

@@ -11,7 +11,7 @@ mod tests {
     use custody::register::RegisterCustodian;
     use std::test::*;
 
-    /// The most units of a box.
+    // The most units of a box.
     const MOST: u64 = 100_000_000_000;
 
     #[test]
