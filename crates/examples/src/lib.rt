@@ -1,7 +1,10 @@
-// The crates as a client uses them: worked figures, edges and bad input, each as a test that is proved safe and run.
+// The crates as a client uses them. Figures and histories that the checker computes stand as contracts; figures of
+// the code, edges and bad input as tests, each proved safe and run.
 mod bad_input;
 mod claims;
 pub mod lender;
 mod margin_amounts;
 mod registers;
 mod values;
+pub mod witnesses;
+pub mod worked;

@@ -1,7 +1,7 @@
 -- The bounds of what a book holds, which keep every figure within 64 bits.
 use mathlib.Core.Path.{_≡_}
-use Prim.Native.Nat.{ℕ, _≤_}
-use Rattle.rules.specs.Sizes.{most-units, most-price}
+use Prim.Native.Nat.{ℕ, _*_, _≤_}
+use Rattle.rules.specs.Sizes.{accounts, most-units, most-price}
 use Rattle.rules.specs.States.{State, RowAllowed}
 
 pub record Bounded {S : Type 0} (state : S → State) : Type 0 where
@@ -17,3 +17,7 @@ most-worth = 1000000000000000
 -- the most that the four boxes of a pocket can be worth
 abbrev pub most-pocket : ℕ
 most-pocket = 4000000000000000
+
+-- the most that pockets of all accounts can be worth
+abbrev pub most-total : ℕ
+most-total = accounts * most-pocket

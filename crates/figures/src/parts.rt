@@ -3,7 +3,7 @@ ghost use Prim.Native.Nat.{ℕ, _≤_};
 ghost use mathlib.Core.Bool.{Bool};
 ghost use Rattle.rules.specs.Sizes.{most-amount};
 ghost use Rattle.rules.specs.States.{under, is};
-ghost use Rattle.figures.specs.Bounds.{most-pocket};
+ghost use Rattle.figures.specs.Bounds.{most-pocket, most-total};
 ghost use Rattle.figures.specs.Parts.{parts-of, parts-under, total-parts};
 use crate::ledger::Ledger;
 use crate::shares::customer_shares;
@@ -75,7 +75,7 @@ fn parts_under<L: Ledger>(ledger: &L, account: u16, participant: u8) -> Parts
 /// The sums of a participant over all its accounts.
 pub(crate) fn total_parts<L: Ledger>(ledger: &L, participant: u8) -> Parts
     ensures value { λ r. ⌜ r ≡ total-parts (L·Ledger .state (now (ledger .entry))) participant ⌝ }
-    ensures small { λ r. ⌜ r .pool ≤ 1000000000000000000 ⌝ ∗ ⌜ r .kept ≤ 1000000000000000000 ⌝ ∗ ⌜ r .«passed_on» ≤ 1000000000000000000 ⌝ }
+    ensures small { λ r. ⌜ r .pool ≤ most-total ⌝ ∗ ⌜ r .kept ≤ most-total ⌝ ∗ ⌜ r .«passed_on» ≤ most-total ⌝ }
 {
     let mut pool = 0;
     let mut charge = 0;

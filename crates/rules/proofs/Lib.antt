@@ -1,1 +1,12 @@
 pub mod Sums
+pub mod Passed
+pub mod Balance
+pub mod Pockets
+pub mod Moves
+pub mod Tiers
+pub mod InStep
+pub mod Lowering
+pub mod Withdrawals
+pub mod Seizures
+pub mod Alike
+pub mod Whole

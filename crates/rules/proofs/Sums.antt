@@ -1,9 +1,11 @@
 -- Sums over an index.
 use mathlib.Core.Path.{_≡_, refl}
+use mathlib.Core.Logic.{_⊎_, inl, inr}
 use Prim.Native.Nat.{ℕ, zero, suc, _+_, _*_, _≤_, _<_}
 use native.Mathlib.Nat.{suc-mul}
 use native.Mathlib.Numerals.{add-one}
 use native.Mathlib.Omega.{arith}
+use Rattle.std.proofs.shelf.Tests.{cases-eq}
 use Rattle.rules.specs.Sizes.{sum}
 
 pub sum-none : (f : ℕ → ℕ) → sum 0 f ≡ 0
@@ -29,3 +31,30 @@ pub sum-most : (n m : ℕ) (f : ℕ → ℕ) → ((k : ℕ) → k < n → f k �
 unfolding sum
 sum-most zero m f h = omega arith
 sum-most (suc n) m f h = let front = sum-most n m f (λ k b. h k (omega arith)) in let back = h n (omega arith) in omega (arith, suc-mul n m)
+
+-- two sums with the same terms, and a sum of sums
+pub sum-same : (n : ℕ) (f g : ℕ → ℕ) → ((k : ℕ) → k < n → f k ≡ g k) → sum n f ≡ sum n g
+unfolding sum
+sum-same zero f g h = refl
+sum-same (suc n) f g h = let front = sum-same n f g (λ k b. h k (omega arith)) in let back = h n (omega arith) in omega arith
+
+pub sum-add : (n : ℕ) (f g : ℕ → ℕ) → sum n (λ k. f k + g k) ≡ sum n f + sum n g
+unfolding sum
+sum-add zero f g = refl
+sum-add (suc n) f g = let front = sum-add n f g in omega arith
+
+-- one term is lower by v, and no other differs
+pub sum-lower : (n i v : ℕ) (f g : ℕ → ℕ) → i < n → f i + v ≡ g i → ((k : ℕ) → (k ≡ i → ⊥) → f k ≡ g k) → sum n f + v ≡ sum n g
+unfolding sum
+sum-lower zero i v f g b e h = omega arith
+sum-lower (suc n) i v f g b e h = go (λ l. sum-lower n i v f g l e h) (cases-eq n i)
+  where
+    go : (i < n → sum n f + v ≡ sum n g) → (n ≡ i) ⊎ (n ≡ i → ⊥) → sum n f + f n + v ≡ sum n g + g n
+    go more (inl q) =
+        let front = sum-same n f g (λ k l. h k (λ r. omega arith)) in
+        let back : f n + v ≡ g n = rw q e in
+        omega arith
+    go more (inr q) =
+        let front = more (omega arith) in
+        let back = h n q in
+        omega arith

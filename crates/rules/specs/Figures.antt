@@ -5,13 +5,14 @@ use Prim.Native.Nat.{ℕ, _+_}
 use lib.Dec.{ltb}
 use Rattle.std.specs.declared.option.Option.{Option}
 use Rattle.std.specs.declared.result.Result.{Result}
+use Rattle.std.specs.declared.result.Result.the-variants.{Ok, Err}
 use Rattle.rules.specs.declared.refusal.Refusal.{Refusal}
 use Rattle.rules.specs.declared.refusal.Refusal.the-variants.{WrongAccount, WrongParticipant}
 use Rattle.rules.specs.Sizes.{accounts, participants, assets, boxes, box, house, sum}
-use Rattle.rules.specs.Values.{market}
+use Rattle.rules.specs.Values.{market, applied}
 use Rattle.rules.specs.Claims.{lesser, remainder, own-pool-of, excess-of, withheld-of, claim-of, kept-of, passed-on-of, rest-of}
 use Rattle.rules.specs.Refusals.{answered}
-use Rattle.rules.specs.States.{State, under, is, known}
+use Rattle.rules.specs.States.{State, Terms, under, is, known}
 
 -- the market value of a box, and of a pocket: the sum over its boxes, each rounded down by itself
 abbrev pub worth : (price held : ℕ → ℕ) (account pocket asset : ℕ) → ℕ
@@ -19,6 +20,10 @@ worth price held account pocket asset = market asset (price asset) (held (box ac
 
 unfoldable pub pocket-value : (price held : ℕ → ℕ) (account pocket : ℕ) → ℕ
 pocket-value price held account pocket = sum assets (worth price held account pocket)
+
+-- the market value of an account; a house account has the direct pocket only
+unfoldable pub account-value : (price held : ℕ → ℕ) (account : ℕ) → ℕ
+account-value price held account = pocket-value price held account 0 + cond (house account) 0 (pocket-value price held account 1)
 
 -- f added up over the accounts of one participant, its house account among them
 unfoldable pub over : (ℕ → Option ℕ) → ℕ → (ℕ → ℕ) → ℕ
@@ -81,11 +86,30 @@ module _ (s : State) where
   unfoldable pub retained : ℕ → ℕ
   retained participant = kept-from-pool participant + over (s .opened) participant (from-customer kept)
 
+-- What an account's margin is measured by: the applied value of all its boxes must reach the maintenance amount that
+-- its method asks for its counts.
+unfoldable pub covering-value : State → ℕ → ℕ
+covering-value s account =
+    let applied-pocket : ℕ → ℕ = λ pocket. sum assets (λ asset. applied (worth (s .price) (s .held) account pocket asset) (s .haircut asset)) in
+    applied-pocket 0 + cond (house account) 0 (applied-pocket 1)
+
+unfoldable pub maintenance-amount : Terms → State → ℕ → ℕ
+maintenance-amount T s account = cond (house account) (T .house-amount (s .rows account .counts)) (T .customer-amount (s .rows account .counts))
+
 -- The three questions. They change nothing, and the participant's standing plays no part in them.
 
 -- two amounts, or a refusal
 abbrev pub Amounts : Type 0
 Amounts = Result (ℕ × ℕ) Refusal
+
+-- the amounts of an answer, 0 where it is a refusal
+abbrev pub first-amount : Amounts → ℕ
+first-amount (Ok amounts) = amounts .0
+first-amount (Err refusal) = 0
+
+abbrev pub second-amount : Amounts → ℕ
+second-amount (Ok amounts) = amounts .1
+second-amount (Err refusal) = 0
 
 -- of a customer account: the customer's claim, and the sum withheld
 abbrev pub ask-customer : State → ℕ → Amounts

@@ -6,3 +6,5 @@ pub mod Claims
 pub mod States
 pub mod Figures
 pub mod Orders
+pub mod Runs
+pub mod Law

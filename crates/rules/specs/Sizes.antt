@@ -47,7 +47,7 @@ abbrev pub box : (account pocket asset : ℕ) → ℕ
 box account pocket asset = account * 8 + (pocket * 4 + asset)
 
 abbrev pub boxes : ℕ
-boxes = 512
+boxes = accounts * 8
 
 -- an account that is a participant's own
 abbrev pub house : ℕ → Bool

@@ -95,7 +95,25 @@ is None y = false
 abbrev pub known : State → ℕ → Bool
 known s account = ltb account accounts && some? (under (s .opened) account)
 
+-- the participant of an account that is known
+abbrev pub owner-number : Option ℕ → ℕ
+owner-number (Some x) = x
+owner-number None = participants
+
+abbrev pub participant-of : State → ℕ → ℕ
+participant-of s account = owner-number (under (s .opened) account)
+
 abbrev pub is-active : Standing → Bool
 is-active Active = true
 is-active Suspended = false
 is-active Settled = false
+
+abbrev pub is-suspended : Standing → Bool
+is-suspended Active = false
+is-suspended Suspended = true
+is-suspended Settled = false
+
+abbrev pub is-settled : Standing → Bool
+is-settled Active = false
+is-settled Suspended = false
+is-settled Settled = true

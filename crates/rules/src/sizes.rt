@@ -15,9 +15,6 @@ pub const POCKETS: u8 = 2;
 /// Assets, numbered from 0.
 pub const ASSETS: u8 = 4;
 
-/// Boxes: one for each account, pocket and asset.
-pub const BOXES: usize = 512;
-
 /// The most units that one box can hold, and that one order can move.
 pub const MOST_UNITS: u64 = 100_000_000_000;
 
@@ -37,6 +34,9 @@ pub const MOST_COUNT: u32 = 1_000_000;
 
 /// `ACCOUNTS` as a length.
 pub const ACCOUNTS_LEN: usize = ACCOUNTS as usize;
+
+/// Boxes: one for each account, pocket and asset.
+pub const BOXES: usize = ACCOUNTS_LEN * 8;
 
 /// `PARTICIPANTS` as a length.
 pub const PARTICIPANTS_LEN: usize = PARTICIPANTS as usize;
