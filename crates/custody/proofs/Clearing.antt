@@ -1,4 +1,4 @@
--- What clearing a memory of numbers leaves.
+-- What clearing a memory leaves.
 use mathlib.Core.Path.{_≡_, ap}
 use mathlib.Core.List.{List, _++_}
 use Prim.Native.Nat.{ℕ, _-_}
@@ -7,7 +7,8 @@ use borrow.Rule.Slice.PartMut.{postOf}
 use lib.ListN.{length, take, replicate}
 use Rattle.std.proofs.shelf.Lists.{places, length-append, length-replicate, length-drop, length-take}
 use Rattle.custody.specs.Moves.{Cleared}
-use Rattle.custody.specs.Registers.{register, limit-of, served, cleared-cells}
+use Rattle.custody.specs.Served.{served, limit-of}
+use Rattle.custody.specs.Registers.{register, cleared-cells}
 
 -- a fill of the first n numbers, as the code does it
 pub filled : (cells zeros : List ℕ) (n : ℕ) → n ≡ served (length cells) → zeros ≡ replicate (length (take (n - 0) cells)) 0 → zeros ++ postOf 0 (n - 0) cells ≡ cleared-cells cells

@@ -3,19 +3,11 @@
 use mathlib.Core.Bool.{cond}
 use mathlib.Core.List.{List, _++_}
 use Prim.Native.Nat.{ℕ, _+_, _-_, min}
-use lib.Dec.{ltb, eqb}
+use lib.Dec.{eqb}
 use lib.ListN.{length, getD, set, drop, replicate}
-use Rattle.rules.specs.Sizes.{boxes as box-count, most-units}
 use Rattle.custody.specs.Boxes.{Boxes}
+use Rattle.custody.specs.Served.{served, limit-of}
 use Rattle.custody.specs.Moves.{passes-limit, passes-holding}
-
--- how many boxes a memory with room for so many serves
-abbrev pub served : ℕ → ℕ
-served room = min room box-count
-
--- a box that is served may hold as much as any box can; every other has no room at all
-abbrev pub limit-of : (room b : ℕ) → ℕ
-limit-of room b = cond (ltb b (served room)) most-units 0
 
 -- a stored number above the limit reads as the limit
 abbrev pub register : List ℕ → Boxes

@@ -1,3 +1,7 @@
-// Who holds the deposits: the custodian as a trait, and the number register over memory that the caller lends.
+// Who holds the deposits: the custodian as a trait, two custodians over memory that the caller lends, and one that
+// joins any two.
 pub mod custodian;
+pub mod memory;
+pub mod page;
 pub mod register;
+pub mod split;

@@ -10,7 +10,7 @@ use Rattle.rules.specs.States.{Lawful, LawfulMethod, made}
 use Rattle.rules.specs.Figures.{pocket-value, account-value, over, from-customer, own-pool, excess, withheld, claim, kept, passed-on, rest, pooled, pool, charge, kept-from-pool, participant-claim, retained, covering-value, maintenance-amount}
 use Rattle.rules.specs.Orders.{withdrawal-barred, seizure-barred, open-lots, answer, after}
 use Rattle.rules.specs.Runs.{run, history, empty-tally, entered, fed, tally, total, accepted-for}
-use Rattle.margin.specs.Nets.{net-amount}
+use Rattle.margin.specs.Rates.{asked}
 use Rattle.examples.specs.Histories.{ample, barren}
 use Rattle.examples.specs.Witnesses.{Witnesses}
 use Rattle.examples.specs.Worked.{WorkedFigures}
@@ -31,7 +31,7 @@ barren-lawful = record { bounded = λ b. zero-le; none-beyond = λ b h. refl; ho
 
 -- all that computes
 all : ℕ
-unfolding sum market applied made pocket-value account-value over from-customer own-pool excess withheld claim kept passed-on rest pooled pool charge kept-from-pool participant-claim retained covering-value maintenance-amount withdrawal-barred seizure-barred open-lots answer after run history empty-tally entered fed tally total accepted-for net-amount
+unfolding sum market applied made pocket-value account-value over from-customer own-pool excess withheld claim kept passed-on rest pooled pool charge kept-from-pool participant-claim retained covering-value maintenance-amount withdrawal-barred seizure-barred open-lots answer after run history empty-tally entered fed tally total accepted-for asked
 all = 0
 
 pub witnesses : Witnesses
@@ -61,7 +61,8 @@ worked-figures = record {
   currency = (refl, refl);
   bonds = (refl, refl);
   shares = refl;
-  net = refl;
+  net-and-gross = (refl, refl);
+  worst = (refl, refl);
   both-debts = (refl, refl, refl);
   too-little = refl;
   replacement-and-house = (refl, refl);

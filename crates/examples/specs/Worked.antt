@@ -2,6 +2,7 @@
 use mathlib.Core.Path.{_≡_}
 use mathlib.Core.List.{List, [], _∷_}
 use Prim.Native.Nat.{ℕ}
+use lib.IntN.{ℤ, pos, negsuc}
 use lib.ListN.{replicate}
 use Rattle.std.specs.declared.result.Result.the-variants.{Ok}
 use Rattle.rules.specs.declared.row.Counts.{Counts}
@@ -10,7 +11,8 @@ use Rattle.rules.specs.Values.{market, applied}
 use Rattle.rules.specs.Claims.{own-pool-of, withheld-of, claim-of, kept-of, rest-of}
 use Rattle.rules.specs.States.{flat}
 use Rattle.rules.specs.Figures.{ask-customer, ask-participant}
-use Rattle.margin.specs.Nets.{net-amount}
+use Rattle.margin.specs.Rates.{net-amount, gross-amount}
+use Rattle.margin.specs.Losses.{worst-loss}
 use Rattle.examples.specs.Histories.{outcome, both-sides}
 
 -- a row with debts and nothing else
@@ -24,11 +26,16 @@ first-contract long short = record { long = long ∷ replicate 7 0; short = shor
 abbrev all-at : ℕ → List ℕ
 all-at rate = replicate 8 rate
 
+-- one scenario in which contract 0 falls by 50,000, and fifteen in which nothing moves
+abbrev one-fall : List (List ℤ)
+one-fall = (negsuc 49999 ∷ replicate 7 (pos 0)) ∷ replicate 15 (replicate 8 (pos 0))
+
 pub record WorkedFigures : Type 0 where
   pub currency : (market 1 15025 12345 ≡ 18548) × (applied 18548 50 ≡ 17620)
   pub bonds : (market 2 9850 1000000 ≡ 985000) × (applied 985000 20 ≡ 965300)
   pub shares : market 3 1234 7 ≡ 863
-  pub net : net-amount (all-at 60000) (first-contract 5 3) ≡ 120000
+  pub net-and-gross : (net-amount (all-at 60000) (first-contract 5 3) ≡ 120000) × (gross-amount (all-at 60000) (first-contract 5 3) ≡ 480000)
+  pub worst : (worst-loss one-fall (first-contract 5 3) ≡ 100000) × (worst-loss one-fall (first-contract 3 5) ≡ 0)
   -- 150 deposited directly, debts 100 and 80
   pub both-debts :
       let row = owing 100 80 in

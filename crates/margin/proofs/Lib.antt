@@ -1,2 +1,4 @@
 pub mod Limits
 pub mod Clamping
+pub mod Signs
+pub mod Compared

@@ -1,4 +1,6 @@
 pub mod Counted
 pub mod Rates
-pub mod Nets
-pub mod NetLaws
+pub mod RateLaws
+pub mod Losses
+pub mod LossLaws
+pub mod Comparisons

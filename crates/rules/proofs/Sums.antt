@@ -58,3 +58,9 @@ sum-lower (suc n) i v f g b e h = go (λ l. sum-lower n i v f g l e h) (cases-eq
         let front = more (omega arith) in
         let back = h n q in
         omega arith
+
+-- no term above the other sum's
+pub sum-less : (n : ℕ) (f g : ℕ → ℕ) → ((k : ℕ) → k < n → f k ≤ g k) → sum n f ≤ sum n g
+unfolding sum
+sum-less zero f g h = omega arith
+sum-less (suc n) f g h = let front = sum-less n f g (λ k b. h k (omega arith)) in let back = h n (omega arith) in omega arith
