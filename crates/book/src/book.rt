@@ -1,8 +1,10 @@
 ghost use mathlib.Core.Path.{_≡_};
-ghost use Rattle.rules.specs.States.{made, known};
+ghost use Rattle.rules.specs.States.{made, known, participant-of};
 ghost use Rattle.book.specs.States.{state-of, terms-of};
 ghost use Rattle.book.specs.BookLaws.{lawful};
 use crate::limits::amounts_out_of_range;
+use crate::limits::counts_barred;
+use crate::limits::counts_out_of_range;
 use crate::limits::is_house;
 use crate::limits::no_such_pocket;
 use crate::limits::units_out_of_range;
@@ -14,6 +16,7 @@ use custody::custodian::RefusalFromPut;
 use figures::claims::customer_figures;
 use figures::claims::participant_figures;
 use figures::ledger::Ledger;
+use figures::lots::open_lots;
 use margin::method::MarginMethod;
 use rules::boxes::box_number;
 use rules::refusal::Refusal;
@@ -23,6 +26,7 @@ use rules::sizes::BOXES;
 use rules::sizes::MOST_HAIRCUT;
 use rules::sizes::MOST_PRICE;
 use rules::sizes::PARTICIPANTS;
+use rules::standing::DefaultEvent;
 use rules::standing::Standing;
 
 /// A margin book over a custodian and two margin methods: the first sets the margin of house accounts, the second that
@@ -52,6 +56,26 @@ impl<Custody: Custodian, HouseMethod: MarginMethod, CustomerMethod: MarginMethod
             house,
             customers,
             records: Records::fresh(),
+        }
+    }
+
+    /// The standing of a participant.
+    fn standing(&self, participant: u8) -> Standing
+        ensures { λ r. ⌜ r ≡ state-of (now (self .entry) .records) (Custody·Custodian .boxes (now (self .entry) .custody)) .standing participant ⌝ }
+    {
+        match self.records.standings.get(participant as usize) {
+            Some(standing) => *standing,
+            None => Standing::Active,
+        }
+    }
+
+    /// The standing of the participant that an account is under.
+    fn standing_over(&self, account: u16) -> Standing
+        ensures { λ r. ⌜ r ≡ state-of (now (self .entry) .records) (Custody·Custodian .boxes (now (self .entry) .custody)) .standing (participant-of (state-of (now (self .entry) .records) (Custody·Custodian .boxes (now (self .entry) .custody))) account) ⌝ }
+    {
+        match self.owner(account) {
+            Some(owner) => self.standing(owner),
+            None => self.standing(PARTICIPANTS),
         }
     }
 
@@ -103,6 +127,35 @@ pub impl<
         Ok(())
     }
 
+    fn position(
+        &mut self,
+        account: u16,
+        contract: u8,
+        long: u32,
+        short: u32,
+    ) -> Result<(), Refusal> {
+        if !self.knows(account) {
+            return Err(Refusal::WrongAccount);
+        }
+        if counts_out_of_range(contract, long, short) {
+            return Err(Refusal::OutOfRange);
+        }
+        let old = self.row(account).counts;
+        let old_long = old.long[contract as usize];
+        let old_short = old.short[contract as usize];
+        if counts_barred(
+            self.standing_over(account),
+            old_long,
+            old_short,
+            long,
+            short,
+        ) {
+            return Err(Refusal::WrongStanding);
+        }
+        self.records.table.position(account, contract, long, short);
+        Ok(())
+    }
+
     fn declare(
         &mut self,
         account: u16,
@@ -136,6 +189,27 @@ pub impl<
             return Err(Refusal::OutOfRange);
         }
         self.custody.put(box_number(account, pocket, asset), units)?;
+        Ok(())
+    }
+
+    fn suspend(&mut self, participant: u8) -> Result<(), Refusal> {
+        if participant >= PARTICIPANTS {
+            return Err(Refusal::WrongParticipant);
+        }
+        let next = self.standing(participant).next(DefaultEvent::Suspend)?;
+        self.records.standings[participant as usize] = next;
+        Ok(())
+    }
+
+    fn settle(&mut self, participant: u8) -> Result<(), Refusal> {
+        if participant >= PARTICIPANTS {
+            return Err(Refusal::WrongParticipant);
+        }
+        let next = self.standing(participant).next(DefaultEvent::Settle)?;
+        if open_lots(self, participant) != 0 {
+            return Err(Refusal::OpenPositions);
+        }
+        self.records.standings[participant as usize] = next;
         Ok(())
     }
 

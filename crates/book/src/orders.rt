@@ -1,7 +1,7 @@
 ghost use mathlib.Core.Path.{_≡_};
 ghost use Rattle.rules.specs.States.{State, Terms, Lawful};
 ghost use Rattle.rules.specs.Figures.{ask-customer, ask-participant, ask-held};
-ghost use Rattle.rules.specs.Orders.{step, opening, mark, declare, deposit};
+ghost use Rattle.rules.specs.Orders.{step, opening, mark, position, declare, deposit, suspend, settle};
 use rules::refusal::Refusal;
 
 /// The orders and questions of a margin book. Each order answers the first refusal that holds, in the order in which
@@ -27,6 +27,11 @@ pub trait MarginBook {
         ensures step { λ r. ⌜ (r, state (now (self .exit))) ≡ step (terms (now (self .entry))) (state (now (self .entry))) (mark asset price haircut) ⌝ }
         ensures same { λ _. ⌜ terms (now (self .exit)) ≡ terms (now (self .entry)) ⌝ };
 
+    /// Sets both counts of a contract of one account.
+    fn position(&mut self, account: u16, contract: u8, long: u32, short: u32) -> Result<(), Refusal>
+        ensures step { λ r. ⌜ (r, state (now (self .exit))) ≡ step (terms (now (self .entry))) (state (now (self .entry))) (position account contract long short) ⌝ }
+        ensures same { λ _. ⌜ terms (now (self .exit)) ≡ terms (now (self .entry)) ⌝ };
+
     /// Sets the customer margin, the customer's debt to the participant and the participant's debt to the clearing
     /// house on one account.
     fn declare(
@@ -42,6 +47,16 @@ pub trait MarginBook {
     /// Puts units of an asset into a pocket of an account.
     fn deposit(&mut self, account: u16, pocket: u8, asset: u8, units: u64) -> Result<(), Refusal>
         ensures step { λ r. ⌜ (r, state (now (self .exit))) ≡ step (terms (now (self .entry))) (state (now (self .entry))) (deposit account pocket asset units) ⌝ }
+        ensures same { λ _. ⌜ terms (now (self .exit)) ≡ terms (now (self .entry)) ⌝ };
+
+    /// Suspends an active participant: its default begins.
+    fn suspend(&mut self, participant: u8) -> Result<(), Refusal>
+        ensures step { λ r. ⌜ (r, state (now (self .exit))) ≡ step (terms (now (self .entry))) (state (now (self .entry))) (suspend participant) ⌝ }
+        ensures same { λ _. ⌜ terms (now (self .exit)) ≡ terms (now (self .entry)) ⌝ };
+
+    /// Settles a suspended participant none of whose accounts has an open lot: its default is over.
+    fn settle(&mut self, participant: u8) -> Result<(), Refusal>
+        ensures step { λ r. ⌜ (r, state (now (self .exit))) ≡ step (terms (now (self .entry))) (state (now (self .entry))) (settle participant) ⌝ }
         ensures same { λ _. ⌜ terms (now (self .exit)) ≡ terms (now (self .entry)) ⌝ };
 
     /// What the customer of an account may claim, and what is withheld from it.

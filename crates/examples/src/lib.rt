@@ -6,6 +6,7 @@ pub mod lender;
 mod margin_amounts;
 mod memories;
 mod splits;
+mod standings;
 mod values;
 pub mod witnesses;
 pub mod worked;

@@ -21,3 +21,7 @@ most-pocket = 4000000000000000
 -- the most that pockets of all accounts can be worth
 abbrev pub most-total : ℕ
 most-total = accounts * most-pocket
+
+-- more lots than any counts of the code's type can add up to
+abbrev pub most-lots : ℕ
+most-lots = 100000000000

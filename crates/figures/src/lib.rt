@@ -2,6 +2,7 @@
 // withheld and retained. They are worked out over anything that a book's state can be read from.
 pub mod claims;
 pub mod ledger;
+pub mod lots;
 mod parts;
 mod shares;
 mod tiers;

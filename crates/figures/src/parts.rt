@@ -47,7 +47,7 @@ fn account_parts<L: Ledger>(ledger: &L, account: u16) -> Parts
 }
 
 /// Whether an account is under a participant.
-fn is_under<L: Ledger>(ledger: &L, account: u16, participant: u8) -> bool
+pub(crate) fn is_under<L: Ledger>(ledger: &L, account: u16, participant: u8) -> bool
     ensures { λ r. ⌜ r ≡ is (under (L·Ledger .state (now (ledger .entry)) .opened) account) participant ⌝ }
 {
     match ledger.owner(account) {

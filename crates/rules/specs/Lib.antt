@@ -3,6 +3,7 @@ pub mod Refusals
 pub mod Wordings
 pub mod Values
 pub mod Claims
+pub mod Standings
 pub mod States
 pub mod Figures
 pub mod Orders

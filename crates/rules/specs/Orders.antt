@@ -14,7 +14,8 @@ use Rattle.rules.specs.declared.refusal.Refusal.the-variants.{WrongAccount, Wr
 use Rattle.rules.specs.Sizes.{accounts, participants, pockets, assets, contracts, most-units, most-amount, most-price, most-haircut, most-count, box, house, sum, put}
 use Rattle.rules.specs.Claims.{lesser}
 use Rattle.rules.specs.Refusals.{Outcome, outcome-number, decided}
-use Rattle.rules.specs.States.{State, Terms, some?, known, participant-of, is-active, is-suspended, is-settled}
+use Rattle.rules.specs.Standings.{is-active, is-suspended, is-settled}
+use Rattle.rules.specs.States.{State, Terms, some?, known, participant-of}
 use Rattle.rules.specs.Figures.{worth, over, replacement, own-pool, excess, kept, rest, pool, charge, kept-from-pool, covering-value, maintenance-amount}
 
 -- An order may name any number at all; one that names too large a number is refused.
@@ -99,6 +100,10 @@ amounts-out-of-range account customer-margin customer-debt participant-debt =
     ltb most-amount customer-margin || ltb most-amount customer-debt || ltb most-amount participant-debt
     || (house account && (not (eqb customer-margin 0) || not (eqb customer-debt 0)))
 
+-- a contract that there is not, or a count above its limit
+abbrev pub counts-out-of-range : (contract long short : ℕ) → Bool
+counts-out-of-range contract long short = not (ltb contract contracts) || ltb most-count long || ltb most-count short
+
 -- Counts may not change once the participant is settled; while it is suspended neither may rise.
 abbrev pub counts-barred : Standing → (old-long old-short long short : ℕ) → Bool
 counts-barred standing old-long old-short long short = is-settled standing || (is-suspended standing && (ltb old-long long || ltb old-short short))
@@ -132,9 +137,12 @@ seizure-barred s side paying pocket paid value =
     (ltb (kept s paying) value || (eqb pocket 1 && ltb (lesser (replacement s paying) (s .rows paying .«customer_margin»)) value))
     (ltb (kept-from-pool s (participant-of s paying)) value || ltb (rest s paid) value || (eqb pocket 1 && ltb (excess s paying) value))
 
--- all lots of a participant's accounts, its house account among them
+-- all lots of an account, and of a participant's accounts, its house account among them
+unfoldable pub row-lots : Counts → ℕ
+row-lots counts = sum contracts (λ k. getD (counts .long) k 0 + getD (counts .short) k 0)
+
 unfoldable pub open-lots : State → ℕ → ℕ
-open-lots s participant = over (s .opened) participant (λ account. sum contracts (λ k. getD (s .rows account .counts .long) k 0 + getD (s .rows account .counts .short) k 0))
+open-lots s participant = over (s .opened) participant (λ account. row-lots (s .rows account .counts))
 
 -- ONE ORDER
 
@@ -150,7 +158,7 @@ tests T s (mark asset price haircut) =
 tests T s (position account contract long short) =
     let counts = s .rows account .counts in
     (WrongAccount, not (known s account)) ∷
-    (OutOfRange, not (ltb contract contracts) || ltb most-count long || ltb most-count short) ∷
+    (OutOfRange, counts-out-of-range contract long short) ∷
     (WrongStanding, counts-barred (s .standing (participant-of s account)) (getD (counts .long) contract 0) (getD (counts .short) contract 0) long short) ∷ []
 tests T s (declare account customer-margin customer-debt participant-debt) =
     (WrongAccount, not (known s account)) ∷

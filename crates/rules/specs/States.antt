@@ -10,7 +10,7 @@ use Rattle.std.specs.declared.option.Option.the-variants.{Some, None}
 use Rattle.rules.specs.declared.row.Counts.{Counts}
 use Rattle.rules.specs.declared.row.AccountRow.{AccountRow}
 use Rattle.rules.specs.declared.standing.Standing.{Standing}
-use Rattle.rules.specs.declared.standing.Standing.the-variants.{Active, Suspended, Settled}
+use Rattle.rules.specs.declared.standing.Standing.the-variants.{Active}
 use Rattle.rules.specs.Sizes.{accounts, participants, contracts, boxes, most-units, most-amount, most-haircut, most-count, house}
 
 pub record State : Type 0 where
@@ -102,18 +102,3 @@ owner-number None = participants
 
 abbrev pub participant-of : State → ℕ → ℕ
 participant-of s account = owner-number (under (s .opened) account)
-
-abbrev pub is-active : Standing → Bool
-is-active Active = true
-is-active Suspended = false
-is-active Settled = false
-
-abbrev pub is-suspended : Standing → Bool
-is-suspended Active = false
-is-suspended Suspended = true
-is-suspended Settled = false
-
-abbrev pub is-settled : Standing → Bool
-is-settled Active = false
-is-settled Suspended = false
-is-settled Settled = true
