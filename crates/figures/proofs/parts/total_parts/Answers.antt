@@ -10,7 +10,7 @@ loop-account-init g c = search (rules, sum_none)
 
 pub loop-account-preserved : goal.loop-account-preserved
 loop-account-preserved g c =
-    let e = c.parts-under-more.ensures.value in
+    let e = c.parts_under-more.ensures.value in
     let i = c.loop-account.invariant in (
       sum_turn _ _ _ _ i.0 (ap (λ (p : Parts). p.pool) e),
       omega arith,

@@ -7,7 +7,7 @@ pub loop-account-init : goal.loop-account-init
 loop-account-init g c = search (rules, sum_none)
 
 pub loop-account-preserved : goal.loop-account-preserved
-loop-account-preserved g c = (sum_turn _ _ _ _ c.loop-account.invariant.0 c.pooled-under-sum.ensures.value, omega arith)
+loop-account-preserved g c = (sum_turn _ _ _ _ c.loop-account.invariant.0 c.pooled_under-sum.ensures.value, omega arith)
 
 pub returns : goal.returns
 unfolding pool over

@@ -9,5 +9,5 @@ returns g c =
     let allowed = (g.L.Ledger.laws.rows c.args.ledger.now c.args.account).amounts in
     record {
       value = search rules;
-      small = shares_most _ _ c.row-row.result _ c.share-out.ensures c.pocket-value-2.ensures.small (rw c.row-row.ensures allowed.1) (rw c.row-row.ensures allowed.2);
+      small = shares_most _ _ c.row-row.result _ c.share_out.ensures c.pocket_value-2.ensures.small (rw c.row-row.ensures allowed.1) (rw c.row-row.ensures allowed.2);
     }

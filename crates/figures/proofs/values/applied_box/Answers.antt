@@ -8,12 +8,12 @@ use Rattle.figures.proofs.values.applied_box.Goals as goal
 
 pub returns : goal.returns
 returns g c =
-    let market = c.box-value-market.result in
+    let market = c.box_value-market.result in
     let haircut = c.haircut.result in
-    let m = c.box-value-market.ensures.small in
+    let m = c.box_value-market.ensures.small in
     let h : haircut ≤ most_haircut = rw c.haircut.ensures (g.L.Ledger.cuts c.args.ledger.now c.args.asset) in
-    let value : c.unwrap-or.result ≡ applied market haircut = c.unwrap-or.ensures ∙ ap (λ (r : Result ℕ Refusal). result_unwrap_or r 0) (c.applied-value.ensures ∙ applied_answered market haircut m h) in
+    let value : c.unwrap_or.result ≡ applied market haircut = c.unwrap_or.ensures ∙ ap (λ (r : Result ℕ Refusal). result_unwrap_or r 0) (c.applied_value.ensures ∙ applied_answered market haircut m h) in
     record {
-      value = value ∙ ap₂ applied c.box-value-market.ensures.value c.haircut.ensures;
+      value = value ∙ ap₂ applied c.box_value-market.ensures.value c.haircut.ensures;
       small = rw value (applied_most market haircut m);
     }

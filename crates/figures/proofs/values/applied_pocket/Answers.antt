@@ -7,7 +7,7 @@ pub loop-asset-init : goal.loop-asset-init
 loop-asset-init g c = search (rules, sum_none)
 
 pub loop-asset-preserved : goal.loop-asset-preserved
-loop-asset-preserved g c = (sum_turn _ _ _ _ c.loop-asset.invariant.0 c.applied-box-sum.ensures.value, omega arith)
+loop-asset-preserved g c = (sum_turn _ _ _ _ c.loop-asset.invariant.0 c.applied_box-sum.ensures.value, omega arith)
 
 pub returns : goal.returns
 unfolding applied_pocket

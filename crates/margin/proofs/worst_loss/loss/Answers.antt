@@ -34,4 +34,4 @@ returns c =
     let e : sumℤ c.loop-contract.contract f ≡ sumℤ contracts f = ap (λ (n : ℕ). sumℤ n f) k in
     let i = c.loop-contract.invariant.1 in
     let m : to_z w64 (of_z w64 c.max.result) ≡ int_max (neg_ℤ (sumℤ contracts f)) (pos 0) = omega (arith, ints, clamps) in
-    c.unsigned-abs.ensures.value ∙ ap nat_abs m ∙ abs_above_0 (neg_ℤ (sumℤ contracts f))
+    c.unsigned_abs.ensures.value ∙ ap nat_abs m ∙ abs_above_0 (neg_ℤ (sumℤ contracts f))

@@ -5,9 +5,9 @@ use Rattle.custody.proofs.page.BytePage.store.Goals as goal
 
 pub returns : goal.returns
 returns c =
-    let start : ℕ = c.args.box-number * 8 in
+    let start : ℕ = c.args.box_number * 8 in
     let bytes = c.args.self.now.bytes.now in
-    let w : c.copy-from-slice.new.self ≡ bytes_of c.args.units = cc in
+    let w : c.copy_from_slice.new.self ≡ bytes_of c.args.units = cc in
     record {
       memory = ap (λ (ys : List ℕ). take start bytes ++ (ys ++ post_of start (start + 8 - start) bytes)) w
           ∙ ap (λ (z : List ℕ). take start bytes ++ (bytes_of c.args.units ++ z)) (Post-is start (start + 8) bytes (omega arith));

@@ -9,7 +9,7 @@ use Rattle.custody.proofs.page.BytePageCustodian.take.Goals as goal
 pub returns-then-units-gt0 : goal.returns-then-units-gt0
 returns-then-units-gt0 c =
     let bytes : List ℕ = c.args.self.now.bytes.now in
-    let b = c.args.box-number in
+    let b = c.args.box_number in
     let n = c.args.units in
     let inside : b < room bytes = search rules in
     let small : b < box_count = search rules in

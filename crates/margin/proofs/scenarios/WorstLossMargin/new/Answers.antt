@@ -9,7 +9,7 @@ loop-row-preserved c =
     let ys : List (List ℤ) = c.loop-row.row-items in
     let i = c.loop-row.row-index in
     let l : i < length c.args.sheet = search rules in
-    ap (λ (z : List ℤ). set ys i z) c.clamp-all.ensures
+    ap (λ (z : List ℤ). set ys i z) c.clamp_all.ensures
     ∙ map_next (map nearest) c.args.sheet ys i [] l c.loop-row.invariant
 
 pub invariant-of-result : goal.invariant-of-result
