@@ -23,8 +23,8 @@ same c =
 small : (c : goal.After-from-3) → nat_abs (meant c) ≤ most_gain
 small c = abs_gain (pos c.args.long -ℤ pos c.args.short) c.args.shift (abs_apart c.args.long c.args.short most_count c.requires.few.0 c.requires.few.1) c.requires.near
 
-pub overflow-mul-result : goal.overflow-mul-result
-overflow-mul-result c = subst (SFits w64) (sym (same c)) (fits64 (meant c) most_gain (small c) (omega arith))
+pub overflow_mul-result : goal.overflow_mul-result
+overflow_mul-result c = subst (SFits w64) (sym (same c)) (fits64 (meant c) most_gain (small c) (omega arith))
 
 pub returns : goal.returns
 returns c =

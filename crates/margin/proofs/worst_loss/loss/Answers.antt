@@ -12,8 +12,8 @@ gain-sum-requires c =
     let m : SFits w32 (get_or c.args.moves.now c.loop-contract.contract (pos 0)) = search rules in
     record { few = (few.0, few.1); near = rw (to_z-of_z m) (c.requires c.loop-contract.contract) }
 
-pub overflow-add-sum : goal.overflow-add-sum
-overflow-add-sum c = omega (arith, ints)
+pub overflow_add-sum : goal.overflow_add-sum
+overflow_add-sum c = omega (arith, ints)
 
 pub loop-contract-preserved : goal.loop-contract-preserved
 loop-contract-preserved c =
@@ -24,8 +24,8 @@ loop-contract-preserved c =
     let i = c.loop-contract.invariant.1 in
     (omega (arith, ints), omega (arith, ints))
 
-pub overflow-sub-sum : goal.overflow-sub-sum
-overflow-sub-sum c = omega (arith, ints)
+pub overflow_sub-sum : goal.overflow_sub-sum
+overflow_sub-sum c = omega (arith, ints)
 
 pub returns : goal.returns
 returns c =

@@ -11,14 +11,14 @@ asked T s given read r e same = e ∙ ap (step T s) same
 
 pub returns-in-Deposit : goal.returns-in-Deposit
 returns-in-Deposit g c =
-    let given : Order = deposit c.account-at-in-Deposit.result c.u8-at-in-Deposit.result c.u8-at-in-Deposit-2.result c.u64-at-in-Deposit.result in
+    let given : Order = deposit c.account_at-in-Deposit.result c.u8_at-in-Deposit.result c.u8_at-in-Deposit-2.result c.u64_at-in-Deposit.result in
     let same : given ≡ meant c.args.order =
-    rw (c.account-at-in-Deposit.ensures, c.u8-at-in-Deposit.ensures, c.u8-at-in-Deposit-2.ensures, c.u64-at-in-Deposit.ensures, c.in-Deposit.is) in
+    rw (c.account_at-in-Deposit.ensures, c.u8_at-in-Deposit.ensures, c.u8_at-in-Deposit-2.ensures, c.u64_at-in-Deposit.ensures, c.in-Deposit.is) in
     record { step = asked (g.B.MarginBook.terms c.args.book.now) (g.B.MarginBook.state c.args.book.now) given _ _ c.deposit.ensures.step same; same = c.deposit.ensures.same }
 
 pub returns-in-Withdraw : goal.returns-in-Withdraw
 returns-in-Withdraw g c =
-    let given : Order = withdraw c.account-at-in-Withdraw.result c.u8-at-in-Withdraw.result c.u8-at-in-Withdraw-2.result c.u64-at-in-Withdraw.result in
+    let given : Order = withdraw c.account_at-in-Withdraw.result c.u8_at-in-Withdraw.result c.u8_at-in-Withdraw-2.result c.u64_at-in-Withdraw.result in
     let same : given ≡ meant c.args.order =
-    rw (c.account-at-in-Withdraw.ensures, c.u8-at-in-Withdraw.ensures, c.u8-at-in-Withdraw-2.ensures, c.u64-at-in-Withdraw.ensures, c.in-Withdraw.is) in
+    rw (c.account_at-in-Withdraw.ensures, c.u8_at-in-Withdraw.ensures, c.u8_at-in-Withdraw-2.ensures, c.u64_at-in-Withdraw.ensures, c.in-Withdraw.is) in
     record { step = asked (g.B.MarginBook.terms c.args.book.now) (g.B.MarginBook.state c.args.book.now) given _ _ c.withdraw.ensures.step same; same = c.withdraw.ensures.same }

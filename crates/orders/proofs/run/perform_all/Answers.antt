@@ -6,7 +6,7 @@ pub loop-place-init : goal.loop-place-init
 loop-place-init g c = (begun _ _ _ _ c.requires, refl)
 
 pub unreachable-requires : goal.unreachable-requires
-unreachable-requires g c = no_fault _ _ _ _ _ _ _ _ c.loop-place.invariant.0 c.loop-place-test.true _ c.in-default.ensures.reads
+unreachable-requires g c = no_fault _ _ _ _ _ _ _ _ c.loop-place.invariant.0 c.loop-place-test.true _ c.in_default.ensures.reads
 
 pub perform-requires : goal.perform-requires
 perform-requires g c = record {

@@ -7,4 +7,4 @@ returns g c =
     fresh_printed vec_items _ _ _ _
     (c.new_book.ensures.terms ∙ terms_are (g.Custody.Custodian.boxes c.args.custody) _ _ c.requires c.house_method.ensures c.customer_method.ensures)
     c.new_book.ensures.promise.fresh
-    c.print-run.ensures
+    c.print_run.ensures

@@ -27,7 +27,7 @@ ended ds whole at rest size some most none inv =
 
 pub returns-then-n-lt10 : goal.returns-then-n-lt10
 returns-then-n-lt10 c =
-    let put = c.in-ok-extend-from-slice.ensures.items in
+    let put = c.in_ok-extend_from_slice.ensures.items in
     let one = decimal_digit c.args.n (omega arith) in
     cc
 
@@ -36,24 +36,24 @@ loop-rest-init c =
     let n = c.args.n in
     (refl, omega arith, omega (arith, length-digits_of-le 10 20 n (omega arith) (omega arith)), append-nil (map (λ d. 48 + d) (digits_of 10 n)) ∙ sym (decimal-digits_of n (omega arith) (omega arith)))
 
-pub overflow-sub-at : goal.overflow-sub-at
-overflow-sub-at c = omega (arith, c.loop-rest.invariant.2, length-digits_of_step 10 c.loop-rest.rest (omega arith) (omega arith))
+pub overflow_sub-at : goal.overflow_sub-at
+overflow_sub-at c = omega (arith, c.loop-rest.invariant.2, length-digits_of_step 10 c.loop-rest.rest (omega arith) (omega arith))
 
 pub loop-rest-preserved : goal.loop-rest-preserved
 loop-rest-preserved c =
     let ds = c.loop-rest.field in
     let at = c.loop-rest.at in
     let rest = c.loop-rest.rest in
-    let digit = c.last-digit.result in
+    let digit = c.last_digit.result in
     let fewer = length-digits_of_step 10 rest (omega arith) (omega arith) in (
       length-set ds (at - 1) digit ∙ c.loop-rest.invariant.0,
       omega arith,
       omega (arith, c.loop-rest.invariant.2),
-      step ds (decimal c.args.n) at rest digit c.last-digit.ensures (omega (arith, c.loop-rest.invariant.2)) (omega (arith, c.loop-rest.invariant.0, c.loop-rest.invariant.1, c.loop-rest.invariant.2)) (omega arith) c.loop-rest.invariant.3,
+      step ds (decimal c.args.n) at rest digit c.last_digit.ensures (omega (arith, c.loop-rest.invariant.2)) (omega (arith, c.loop-rest.invariant.0, c.loop-rest.invariant.1, c.loop-rest.invariant.2)) (omega arith) c.loop-rest.invariant.3,
     )
 
 pub returns : goal.returns
 returns c =
-    let put = c.in-ok-extend-from-slice-2.ensures.items in
+    let put = c.in_ok-extend_from_slice-2.ensures.items in
     let whole = ended c.loop-rest.field (decimal c.args.n) c.loop-rest.at c.loop-rest.rest c.loop-rest.invariant.0 (omega arith) (omega arith) (omega arith) c.loop-rest.invariant.3 in
     cc

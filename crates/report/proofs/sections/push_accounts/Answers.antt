@@ -10,5 +10,5 @@ unfolding account_lines
 loop-account-preserved g c =
     let owner = c.participant_of.ensures in
     let figures = c.customer.ensures in
-    let put = c.in-ok-out.ensures in
+    let put = c.in_ok-out.ensures in
     one_more _ (account_lines (g.B.MarginBook.state c.args.book.now)) _ _ c.loop-account.account c.loop-account.invariant (rw (owner, figures) at put)

@@ -8,4 +8,4 @@ loop-index-init c = none_yet _ _
 
 pub loop-index-preserved : goal.loop-index-preserved
 loop-index-preserved c =
-    one_more _ (λ i. order_line i (get_or c.args.answers.now i 0)) _ _ c.loop-index.index c.loop-index.invariant c.in-ok-out.ensures
+    one_more _ (λ i. order_line i (get_or c.args.answers.now i 0)) _ _ c.loop-index.index c.loop-index.invariant c.in_ok-out.ensures

@@ -9,5 +9,5 @@ pub loop-participant-preserved : goal.loop-participant-preserved
 unfolding participant_lines
 loop-participant-preserved g c =
     let figures = c.participant.ensures in
-    let put = c.in-ok-out.ensures in
+    let put = c.in_ok-out.ensures in
     one_more _ (participant_lines (g.B.MarginBook.state c.args.book.now)) _ _ c.loop-participant.participant c.loop-participant.invariant (rw figures at put)

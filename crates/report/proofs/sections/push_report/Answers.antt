@@ -9,9 +9,9 @@ use Rattle.report.proofs.sections.push_report.Goals as goal
 pub returns : goal.returns
 returns g c =
     let s = g.B.MarginBook.state c.args.book.now in
-    IfOk-weaker c.push-participants.result _ _
+    IfOk-weaker c.push_participants.result _ _
     (λ v.
-    three_parts (vec_items c.args.out) (vec_items c.in-ok-out.out) (vec_items c.in-ok-out-2.out) (vec_items v)
+    three_parts (vec_items c.args.out) (vec_items c.in_ok-out.out) (vec_items c.in_ok-out-2.out) (vec_items v)
     (order_lines c.args.answers.now) (in_turn accounts (account_lines s)) (in_turn participants (participant_lines s))
-    c.in-ok-out.ensures c.in-ok-out-2.ensures)
-    c.push-participants.ensures
+    c.in_ok-out.ensures c.in_ok-out-2.ensures)
+    c.push_participants.ensures

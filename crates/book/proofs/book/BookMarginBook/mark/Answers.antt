@@ -11,13 +11,13 @@ priced prices asset price a p h =
     let other : 0 ≢ asset = omega arith in
     (get_or-set_other prices asset 0 price 0 other ∙ h.0, each_set (λ k n. n ≤ most_price) 0 prices asset price p h.1)
 
-pub invariant-of-self : goal.invariant-of-self
-invariant-of-self g c =
+pub invariant_of-self : goal.invariant_of-self
+invariant_of-self g c =
     let records = c.args.self.now.records in
     (priced records.prices c.args.asset c.args.price (omega arith) (omega arith) records.priced, (records.cut, tt))
 
-pub invariant-of-self-2 : goal.invariant-of-self-2
-invariant-of-self-2 g c =
+pub invariant_of-self-2 : goal.invariant_of-self-2
+invariant_of-self-2 g c =
     let records = c.args.self.now.records in (
       priced records.prices c.args.asset c.args.price (omega arith) (omega arith) records.priced,
       (each_set (λ k n. n ≤ most_haircut) most_haircut records.haircuts c.args.asset c.args.haircut (omega arith) records.cut, tt),

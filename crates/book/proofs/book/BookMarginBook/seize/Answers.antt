@@ -15,34 +15,34 @@ use Rattle.book.proofs.book.BookMarginBook.seize.Goals as goal
 in_table : (s : State) (a b : ℕ) → (not (known s a) || not (known s b)) ≡ false → b < accounts
 in_table s a b e = grind (arith, nat_tests)
 
-pub returns-in-err-value : goal.returns-in-err-value
-returns-in-err-value g c =
+pub returns-in_err-value : goal.returns-in_err-value
+returns-in_err-value g c =
     let book = c.args.self.now in
     let a = c.args in
     let boxes = g.Custody.Custodian.boxes book.custody in
     let s = state_of book.records boxes in
     let T = terms_of boxes (g.HouseMethod.MarginMethod.amount book.house) (g.CustomerMethod.MarginMethod.amount book.customers) in
     let order = seize a.side a.paying a.pocket a.asset a.paid a.units in
-    let refusal = c.in-err-value.field-0.0 in
-    let told : c.from-residual.result ≡ Err refusal = search rules in
+    let refusal = c.in_err-value.field-0.0 in
+    let told : c.from_residual.result ≡ Err refusal = search rules in
     record {
-      step = ap (λ (o : Outcome). (o, s)) told ∙ sym (decided_refused _ s (effect s order) (tests T s order) refusal (sym c.check-seizure.ensures ∙ c.in-err-value.was));
+      step = ap (λ (o : Outcome). (o, s)) told ∙ sym (decided_refused _ s (effect s order) (tests T s order) refusal (sym c.check_seizure.ensures ∙ c.in_err-value.was));
       same = search rules;
     }
 
 -- the take is not refused
-pub returns-in-err-take-out : goal.returns-in-err-take-out
-returns-in-err-take-out g c =
+pub returns-in_err-take_out : goal.returns-in_err-take_out
+returns-in_err-take_out g c =
     let book = c.args.self.now in
     let a = c.args in
     let boxes = g.Custody.Custodian.boxes book.custody in
     let s = state_of book.records boxes in
     let T = terms_of boxes (g.HouseMethod.MarginMethod.amount book.house) (g.CustomerMethod.MarginMethod.amount book.customers) in
     let order = seize a.side a.paying a.pocket a.asset a.paid a.units in
-    let checked = sym c.check-seizure.ensures ∙ c.in-ok-value.was in
+    let checked = sym c.check_seizure.ensures ∙ c.in_ok-value.was in
     let enough = (answered_passed _ _ (tests T s order) checked).1.1.1.1.1.1.0 in
-    let gone = took boxes (g.Custody.Custodian.boxes c.take-out.new.custody) _ (box a.paying a.pocket a.asset) a.units _ c.take-out.ensures c.box-number.ensures enough in
-    absurd (not_both _ _ (ap (λ (out : Outcome × Boxes). out.0) gone) c.in-err-take-out.was)
+    let gone = took boxes (g.Custody.Custodian.boxes c.take_out.new.custody) _ (box a.paying a.pocket a.asset) a.units _ c.take_out.ensures c.box_number.ensures enough in
+    absurd (not_both _ _ (ap (λ (out : Outcome × Boxes). out.0) gone) c.in_err-take_out.was)
 
 pub pay-requires : goal.pay-requires
 pay-requires g c =
@@ -52,7 +52,7 @@ pay-requires g c =
     let s = state_of book.records boxes in
     let T = terms_of boxes (g.HouseMethod.MarginMethod.amount book.house) (g.CustomerMethod.MarginMethod.amount book.customers) in
     let order = seize a.side a.paying a.pocket a.asset a.paid a.units in
-    in_table s a.paying a.paid (answered_passed _ _ (tests T s order) (sym c.check-seizure.ensures ∙ c.in-ok-value.was)).0
+    in_table s a.paying a.paid (answered_passed _ _ (tests T s order) (sym c.check_seizure.ensures ∙ c.in_ok-value.was)).0
 
 pub returns : goal.returns
 returns g c =
@@ -64,9 +64,9 @@ returns g c =
     let s = state_of book.records boxes in
     let T = terms_of boxes house customers in
     let order = seize a.side a.paying a.pocket a.asset a.paid a.units in
-    let checked = sym c.check-seizure.ensures ∙ c.in-ok-value.was in
+    let checked = sym c.check_seizure.ensures ∙ c.in_ok-value.was in
     let enough = (answered_passed _ _ (tests T s order) checked).1.1.1.1.1.1.0 in
-    let gone = took boxes (g.Custody.Custodian.boxes c.take-out.new.custody) _ (box a.paying a.pocket a.asset) a.units _ c.take-out.ensures c.box-number.ensures enough in
+    let gone = took boxes (g.Custody.Custodian.boxes c.take_out.new.custody) _ (box a.paying a.pocket a.asset) a.units _ c.take_out.ensures c.box_number.ensures enough in
     let paid = c.pay.ensures ∙ ap (λ (v : ℕ). put s.rows a.paid (paid_row a.side a.pocket v (s.rows a.paid))) (answered_value _ _ (tests T s order) checked) in
     record {
       step = ap₂ (λ (rows : ℕ → AccountRow) (held : ℕ → ℕ). (Ok tt, with_both s rows held)) paid (ap (λ (out : Outcome × Boxes). out.1.held) gone) ∙ sym (decided_accepted _ s (effect s order) (tests T s order) _ checked);

@@ -14,13 +14,13 @@ affordable a m c p e = grind (arith, nat_tests)
 customerless : (a m c p : ℕ) → amounts_out_of_range a m c p ≡ false → a < participants → (m ≡ 0) × (c ≡ 0)
 customerless a m c p e h = grind (arith, nat_tests)
 
-pub invariant-of-self : goal.invariant-of-self
-invariant-of-self c =
+pub invariant_of-self : goal.invariant_of-self
+invariant_of-self c =
     let t = c.args.self.now in
     let a = c.args in
     let l : a.account < length t.rows = search rules in
     let row : AccountRow → AccountRow = λ r. declared_row r a.customer_margin a.customer_debt a.participant_debt in
-    rows_kept t.rows a.account row _ _ l c.declare-row.ensures t.countable t.affordable t.customerless
+    rows_kept t.rows a.account row _ _ l c.declare_row.ensures t.countable t.affordable t.customerless
     (
     record {
       counts = t.countable a.account;
@@ -35,4 +35,4 @@ returns c =
     let t = c.args.self.now in
     let a = c.args in
     let l : a.account < length t.rows = search rules in
-    rows_written t.rows a.account (λ r. declared_row r a.customer_margin a.customer_debt a.participant_debt) _ _ l c.declare-row.ensures
+    rows_written t.rows a.account (λ r. declared_row r a.customer_margin a.customer_debt a.participant_debt) _ _ l c.declare_row.ensures

@@ -9,8 +9,8 @@ use Rattle.book.specs.States.{rows_of}
 use Rattle.book.proofs.Fresh.{all_countable, all_affordable, houses_customerless}
 use Rattle.book.proofs.table.AccountTable.empty.Goals as goal
 
-pub invariant-of-result : goal.invariant-of-result
-invariant-of-result c =
+pub invariant_of-result : goal.invariant_of-result
+invariant_of-result c =
     let e = sym c.empty.ensures in (
       subst (λ (r : AccountRow). AllCountable (replicate accounts r)) e all_countable,
       (

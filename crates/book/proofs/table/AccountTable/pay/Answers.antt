@@ -29,13 +29,13 @@ customerless side pocket value row h = (
   none_still (eqb side 0) row.customer_debt value h.1,
 )
 
-pub invariant-of-self : goal.invariant-of-self
-invariant-of-self c =
+pub invariant_of-self : goal.invariant_of-self
+invariant_of-self c =
     let t = c.args.self.now in
     let a = c.args in
     let l : a.account < length t.rows = search rules in
     let old = get_or t.rows a.account empty_row in
-    rows_kept t.rows a.account (paid_row a.side a.pocket a.value) _ _ l c.pay-row.ensures t.countable t.affordable t.customerless
+    rows_kept t.rows a.account (paid_row a.side a.pocket a.value) _ _ l c.pay_row.ensures t.countable t.affordable t.customerless
     (
     record {
       counts = t.countable a.account;
@@ -50,4 +50,4 @@ returns c =
     let t = c.args.self.now in
     let a = c.args in
     let l : a.account < length t.rows = search rules in
-    rows_written t.rows a.account (paid_row a.side a.pocket a.value) _ _ l c.pay-row.ensures
+    rows_written t.rows a.account (paid_row a.side a.pocket a.value) _ _ l c.pay_row.ensures

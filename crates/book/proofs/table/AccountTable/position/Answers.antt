@@ -19,16 +19,16 @@ countable row k l s e few i h =
       each_set (λ j n. j < contracts → n ≤ most_count) 0 row.counts.short k s (λ q. r.1.1) (λ j q. (few j q).1) i h,
     )
 
-pub position-row-requires : goal.position-row-requires
-position-row-requires c = (in_range c.args.contract c.args.long c.args.short c.requires.counts).0
+pub position_row-requires : goal.position_row-requires
+position_row-requires c = (in_range c.args.contract c.args.long c.args.short c.requires.counts).0
 
-pub invariant-of-self : goal.invariant-of-self
-invariant-of-self c =
+pub invariant_of-self : goal.invariant_of-self
+invariant_of-self c =
     let t = c.args.self.now in
     let a = c.args in
     let l : a.account < length t.rows = search rules in
     let row : AccountRow → AccountRow = λ r. positioned_row r a.contract a.long a.short in
-    rows_kept t.rows a.account row _ _ l c.position-row.ensures t.countable t.affordable t.customerless
+    rows_kept t.rows a.account row _ _ l c.position_row.ensures t.countable t.affordable t.customerless
     (
     record {
       counts = countable (get_or t.rows a.account empty_row) a.contract a.long a.short c.requires.counts (t.countable a.account);
@@ -43,4 +43,4 @@ returns c =
     let t = c.args.self.now in
     let a = c.args in
     let l : a.account < length t.rows = search rules in
-    rows_written t.rows a.account (λ r. positioned_row r a.contract a.long a.short) _ _ l c.position-row.ensures
+    rows_written t.rows a.account (λ r. positioned_row r a.contract a.long a.short) _ _ l c.position_row.ensures

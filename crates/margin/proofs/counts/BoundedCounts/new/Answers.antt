@@ -4,5 +4,5 @@ use Rattle.margin.specs.Counted.{countable_below}
 use Rattle.margin.proofs.Limits.{countable_is}
 use Rattle.margin.proofs.counts.BoundedCounts.new.Goals as goal
 
-pub invariant-of-result : goal.invariant-of-result
-invariant-of-result c = let e : countable_below c.args.counts contracts ≡ true = search rules in (countable_is c.args.counts e, tt)
+pub invariant_of-result : goal.invariant_of-result
+invariant_of-result c = let e : countable_below c.args.counts contracts ≡ true = search rules in record { countable = countable_is c.args.counts e }

@@ -5,20 +5,20 @@ use Rattle.margin.specs.RateLaws.{setting_off, most_asked, asked_at_most}
 use Rattle.margin.proofs.net.NetMarginMarginMethod.maintenance_amount.Goals as goal
 
 -- what a turn adds
-few_added : (c : goal.After-set-off-sum) → c.set-off-sum.result ≤ most_asked
+few_added : (c : goal.After-set_off-sum) → c.set_off-sum.result ≤ most_asked
 few_added c =
     let counts = c.args.counts.now in
     let rates = c.args.self.now.rates in
-    rw c.set-off-sum.ensures (asked_at_most set_off setting_off rates.each rates.fair counts.counts counts.countable c.loop-contract.contract c.loop-contract-test.true)
+    rw c.set_off-sum.ensures (asked_at_most set_off setting_off rates.each rates.fair counts.counts counts.countable c.loop-contract.contract c.loop-contract-test.true)
 
 pub loop-contract-init : goal.loop-contract-init
 loop-contract-init c = search (rules, sum_none)
 
-pub overflow-add-sum : goal.overflow-add-sum
-overflow-add-sum c = omega (arith, few_added c)
+pub overflow_add-sum : goal.overflow_add-sum
+overflow_add-sum c = omega (arith, few_added c)
 
 pub loop-contract-preserved : goal.loop-contract-preserved
-loop-contract-preserved c = (sum_turn _ _ _ _ c.loop-contract.invariant.0 c.set-off-sum.ensures, omega (arith, few_added c))
+loop-contract-preserved c = (sum_turn _ _ _ _ c.loop-contract.invariant.0 c.set_off-sum.ensures, omega (arith, few_added c))
 
 pub returns : goal.returns
 unfolding asked

@@ -15,8 +15,8 @@ all c =
     let l : length c.args.sheet ≤ c.loop-rate.rate-index = search rules in
     c.loop-rate.invariant ∙ map_all (min most_rate) c.args.sheet c.loop-rate.rate-index l
 
-pub invariant-of-result : goal.invariant-of-result
-invariant-of-result c = let e = all c in (λ k. rw e (clamped_fair c.args.sheet k), tt)
+pub invariant_of-result : goal.invariant_of-result
+invariant_of-result c = let e = all c in record { fair = λ k. rw e (clamped_fair c.args.sheet k) }
 
 pub returns : goal.returns
 returns c =

@@ -12,11 +12,11 @@ loop-row-preserved c =
     ap (λ (z : List ℤ). set ys i z) c.clamp_all.ensures
     ∙ map_next (map nearest) c.args.sheet ys i [] l c.loop-row.invariant
 
-pub invariant-of-result : goal.invariant-of-result
-invariant-of-result c =
+pub invariant_of-result : goal.invariant_of-result
+invariant_of-result c =
     let l : length c.args.sheet ≤ c.loop-row.row-index = search rules in
     let e = c.loop-row.invariant ∙ map_all (map nearest) c.args.sheet c.loop-row.row-index l in
-    (λ s k. rw e (rows_near c.args.sheet s k), tt)
+    record { moderate = λ s k. rw e (rows_near c.args.sheet s k) }
 
 pub returns : goal.returns
 returns c =
