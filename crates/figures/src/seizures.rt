@@ -31,7 +31,7 @@ pub fn value_leaving<L: Ledger>(ledger: &L, account: u16, pocket: u8, asset: u8,
 
 /// Whether a value may not be seized: there is none, or it passes what the clearing house keeps of the paying account
 /// (side 0), or from the pool for the rest of the paid account's debt (side 1).
-#[tactic(auto, unfolding(seizure_barred))]
+#[tactic(auto, unfolding(rules::specs::Orders::seizure_barred))]
 pub fn is_seizure_barred<L: Ledger>(
     ledger: &L,
     side: u8,
