@@ -36,12 +36,10 @@ module _ (rows : List AccountRow) (i : ℕ) (f : AccountRow → AccountRow) (d n
 
   -- the table's invariant, if the account may have the new row
   pub rows_kept : AllCountable rows → AllAffordable rows → HousesCustomerless rows → RowAllowed i (f (get_or rows i empty_row)) →
-      AllCountable (set rows i new) × (AllAffordable (set rows i new) × (HousesCustomerless (set rows i new) × Unit {0}))
+      AllCountable (set rows i new) × AllAffordable (set rows i new) × HousesCustomerless (set rows i new)
   rows_kept c a h allowed =
       let now = subst (λ (row : AccountRow). RowAllowed i row) (sym written) allowed in (
         each_set (λ k row. Countable row.counts) empty_row rows i new now.counts c,
-        (
-          each_set (λ k row. Affordable row) empty_row rows i new now.amounts a,
-          (each_set (λ k row. k < participants → Customerless row) empty_row rows i new now.house_row h, tt),
-        ),
+        each_set (λ k row. Affordable row) empty_row rows i new now.amounts a,
+        each_set (λ k row. k < participants → Customerless row) empty_row rows i new now.house_row h,
       )

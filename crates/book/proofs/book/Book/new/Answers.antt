@@ -13,12 +13,14 @@ returns g c =
     let house = g.HouseMethod.MarginMethod.amount c.args.house in
     let customers = g.CustomerMethod.MarginMethod.amount c.args.customers in
     let over : (ℕ → ℕ) → Terms = λ limit. record { limit = limit; house_amount = house; customer_amount = customers } in
-    let terms-lawful = lawful g.Custody.Custodian.boxes g.Custody.Custodian.laws custody house customers (g.HouseMethod.MarginMethod.laws c.args.house) (g.CustomerMethod.MarginMethod.laws c.args.customers) in
+    let terms_lawful = lawful g.Custody.Custodian.boxes g.Custody.Custodian.laws custody house customers (g.HouseMethod.MarginMethod.laws c.args.house) (g.CustomerMethod.MarginMethod.laws c.args.customers) in
+    let fresh = c.fresh.ensures (g.Custody.Custodian.boxes custody) ∙ ap (with_held made) (fun_ext c.clear.ensures.moved.empty) in
     record {
+      state = fresh;
       promise = record {
-        lawful = terms-lawful;
-        fresh = c.fresh.ensures (g.Custody.Custodian.boxes custody) ∙ ap (with_held made) (fun_ext c.clear.ensures.moved.empty);
-        stands = law _ terms-lawful;
+        lawful = terms_lawful;
+        fresh = fresh;
+        stands = law _ terms_lawful;
       };
       terms = ap over (fun_ext c.clear.ensures.moved.fixed);
     }

@@ -2,6 +2,7 @@ use Rattle.std.proofs.Common.{◌≡◌, ℕ, ◌<◌, ◌≤◌, false, length,
 use Rattle.std.proofs.lemmas.Bool.Decides.{nat_tests}
 use Rattle.rules.specs.declared.row.AccountRow.{AccountRow}
 use Rattle.rules.specs.Sizes.{participants, most_amount}
+use Rattle.rules.specs.States.{RowAllowed}
 use Rattle.rules.specs.Orders.{declared_row, amounts_out_of_range}
 use Rattle.book.specs.States.{rows_of}
 use Rattle.book.proofs.Writes.{rows_written, rows_kept}
@@ -20,14 +21,13 @@ invariant_of-self c =
     let a = c.args in
     let l : a.account < length t.rows = search rules in
     let row : AccountRow → AccountRow = λ r. declared_row r a.customer_margin a.customer_debt a.participant_debt in
-    rows_kept t.rows a.account row _ _ l c.declare_row.ensures t.countable t.affordable t.customerless
-    (
-    record {
+    let allowed : RowAllowed a.account _ = record {
       counts = t.countable a.account;
       amounts = affordable a.account a.customer_margin a.customer_debt a.participant_debt c.requires.amounts;
       house_row = customerless a.account a.customer_margin a.customer_debt a.participant_debt c.requires.amounts;
-    }
-    )
+    } in
+    let kept = rows_kept t.rows a.account row _ _ l c.declare_row.ensures t.countable t.affordable t.customerless allowed in
+    record { countable = kept.0; affordable = kept.1; customerless = kept.2 }
 
 pub returns : goal.returns
 unfolding rows_of

@@ -11,13 +11,12 @@ use Rattle.book.proofs.table.AccountTable.empty.Goals as goal
 
 pub invariant_of-result : goal.invariant_of-result
 invariant_of-result c =
-    let e = sym c.empty.ensures in (
-      subst (λ (r : AccountRow). AllCountable (replicate accounts r)) e all_countable,
-      (
-        subst (λ (r : AccountRow). AllAffordable (replicate accounts r)) e all_affordable,
-        (subst (λ (r : AccountRow). HousesCustomerless (replicate accounts r)) e houses_customerless, tt),
-      ),
-    )
+    let e = sym c.empty.ensures in
+    record {
+      countable = subst (λ (r : AccountRow). AllCountable (replicate accounts r)) e all_countable;
+      affordable = subst (λ (r : AccountRow). AllAffordable (replicate accounts r)) e all_affordable;
+      customerless = subst (λ (r : AccountRow). HousesCustomerless (replicate accounts r)) e houses_customerless;
+    }
 
 pub returns : goal.returns
 unfolding rows_of made

@@ -1,7 +1,7 @@
 use Rattle.std.proofs.Common.{◌≡◌, ℕ, ◌-◌, ◌<◌, ◌≤◌, Bool, true, false, cond, ◌&&◌, eqb, length, get_or, refl, arith, rules}
 use Rattle.rules.specs.declared.row.AccountRow.{AccountRow}
 use Rattle.rules.specs.Sizes.{participants}
-use Rattle.rules.specs.States.{Affordable, Customerless, empty_row}
+use Rattle.rules.specs.States.{Affordable, Customerless, RowAllowed, empty_row}
 use Rattle.rules.specs.Orders.{paid_row}
 use Rattle.book.specs.States.{rows_of}
 use Rattle.book.proofs.Writes.{rows_written, rows_kept}
@@ -35,14 +35,13 @@ invariant_of-self c =
     let a = c.args in
     let l : a.account < length t.rows = search rules in
     let old = get_or t.rows a.account empty_row in
-    rows_kept t.rows a.account (paid_row a.side a.pocket a.value) _ _ l c.pay_row.ensures t.countable t.affordable t.customerless
-    (
-    record {
+    let allowed : RowAllowed a.account _ = record {
       counts = t.countable a.account;
       amounts = affordable a.side a.pocket a.value old (t.affordable a.account);
       house_row = λ h. customerless a.side a.pocket a.value old (t.customerless a.account h);
-    }
-    )
+    } in
+    let kept = rows_kept t.rows a.account (paid_row a.side a.pocket a.value) _ _ l c.pay_row.ensures t.countable t.affordable t.customerless allowed in
+    record { countable = kept.0; affordable = kept.1; customerless = kept.2 }
 
 pub returns : goal.returns
 unfolding rows_of

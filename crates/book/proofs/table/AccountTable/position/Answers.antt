@@ -2,7 +2,7 @@ use Rattle.std.proofs.Common.{◌≡◌, ℕ, ◌<◌, ◌≤◌, false, length,
 use Rattle.std.proofs.lemmas.Bool.Decides.{nat_tests}
 use Rattle.rules.specs.declared.row.AccountRow.{AccountRow}
 use Rattle.rules.specs.Sizes.{contracts, most_count}
-use Rattle.rules.specs.States.{Countable, empty_row}
+use Rattle.rules.specs.States.{Countable, RowAllowed, empty_row}
 use Rattle.rules.specs.Orders.{positioned_row, counts_out_of_range}
 use Rattle.book.specs.States.{rows_of}
 use Rattle.book.proofs.Writes.{each_set, rows_written, rows_kept}
@@ -28,14 +28,13 @@ invariant_of-self c =
     let a = c.args in
     let l : a.account < length t.rows = search rules in
     let row : AccountRow → AccountRow = λ r. positioned_row r a.contract a.long a.short in
-    rows_kept t.rows a.account row _ _ l c.position_row.ensures t.countable t.affordable t.customerless
-    (
-    record {
+    let allowed : RowAllowed a.account _ = record {
       counts = countable (get_or t.rows a.account empty_row) a.contract a.long a.short c.requires.counts (t.countable a.account);
       amounts = t.affordable a.account;
       house_row = t.customerless a.account;
-    }
-    )
+    } in
+    let kept = rows_kept t.rows a.account row _ _ l c.position_row.ensures t.countable t.affordable t.customerless allowed in
+    record { countable = kept.0; affordable = kept.1; customerless = kept.2 }
 
 pub returns : goal.returns
 unfolding rows_of
