@@ -4,7 +4,7 @@ use Rattle.rules.specs.Sizes.{sum}
 use Rattle.rules.specs.Values.{market, applied}
 use Rattle.rules.specs.States.{made}
 use Rattle.rules.specs.Figures.{pocket_value, over, from_customer, own_pool, excess, withheld, claim, kept, passed_on, rest, pooled, pool, charge, kept_from_pool, participant_claim, retained, applied_pocket, covering_value, maintenance_amount}
-use Rattle.rules.specs.Orders.{answer, after}
+use Rattle.rules.specs.Orders.{withdrawal_barred, seizure_barred, answer, after}
 use Rattle.rules.specs.Runs.{run, history}
 use Rattle.margin.specs.Rates.{asked}
 use Rattle.orders.specs.Reading.{orders_from}
@@ -15,5 +15,5 @@ use Rattle.report.specs.Printed.{printed}
 use Rattle.report.proofs.sample.sample_stands.Goals as goal
 
 pub returns : goal.returns
-unfolding digits sum market applied made pocket_value over from_customer own_pool excess withheld claim kept passed_on rest pooled pool charge kept_from_pool participant_claim retained applied_pocket covering_value maintenance_amount answer after run history asked orders_from answers_to in_turn account_lines participant_lines printed
+unfolding digits sum market applied made pocket_value over from_customer own_pool excess withheld claim kept passed_on rest pooled pool charge kept_from_pool participant_claim retained applied_pocket covering_value maintenance_amount withdrawal_barred seizure_barred answer after run history asked orders_from answers_to in_turn account_lines participant_lines printed
 returns c = refl
