@@ -1,5 +1,5 @@
 -- What is true of every book: the bounds that figures rest on, and the laws of its terms.
-use Rattle.std.specs.Prelude.{◌≡◌, ℕ, ◌≤◌}
+use Rattle.std.specs.Prelude.{ℕ}
 use Rattle.std.proofs.Common.{arith}
 use Rattle.rules.specs.declared.row.Counts.{Counts}
 use Rattle.rules.specs.States.{RowAllowed, LawfulMethod, Lawful}

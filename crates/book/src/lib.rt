@@ -1,4 +1,6 @@
 // The margin book over any custodian and any two margin methods.
+#![tactic(auto)]
+
 pub mod book;
 mod checks;
 mod limits;

@@ -1,5 +1,7 @@
 // Runs the order file on standard input on a fresh book, and prints the answer to each order and what every customer and
 // every participant may claim.
+#![tactic(auto)]
+
 use report::answer::answer;
 use std::io::Read;
 

@@ -1,10 +1,9 @@
 -- Numbers as eight bytes in memory.
-use Rattle.std.proofs.Common.{◌≡◌, ℕ, ◌+◌, ◌-◌, ◌*◌, ◌/◌, ◌^◌, ◌<◌, ◌≤◌, min, true, false, cond, eqb, ltb, ◌≢◌, List, ◌++◌, length, get_or, take, drop, replicate, sym, refl, ap, ◌∙◌, ⊎_elim, arith}
+use Rattle.std.proofs.Common.{◌≡◌, ℕ, ◌+◌, ◌-◌, ◌*◌, ◌/◌, ◌^◌, ◌<◌, ◌≤◌, min, true, false, cond, eqb, ◌≢◌, List, ◌++◌, length, get_or, take, drop, replicate, sym, refl, ap, ◌∙◌, ⊎_elim, arith}
 use borrow.Rule.Slice.PartMut.{post_of}
 use Rattle.std.proofs.lemmas.List.{length-append, length-drop, length-take, length-replicate, drop_at, drop-append-le, drop-replicate, take-append-le, take-replicate, get_or-take, same_lists, places}
 use Rattle.std.proofs.lemmas.Bool.{cases_eq, cases_lt, eq-eqb, ne_eqb, lt-ltb, le-ltb, cond-true, cond-false}
 use Rattle.rules.specs.Sizes.{boxes as box_count, most_units}
-use Rattle.custody.specs.Boxes.{Boxes}
 use Rattle.custody.specs.Moves.{Cleared}
 use Rattle.custody.specs.Served.{served, limit_of}
 use Rattle.custody.specs.Pages.{word, bytes_of, word_at, stored, room, page, cleared_page}

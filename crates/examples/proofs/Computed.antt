@@ -1,5 +1,5 @@
 -- Histories and figures, computed.
-use Rattle.std.proofs.Common.{◌≡◌, ℕ, ◌≤◌, ltb, refl, zero-le, arith}
+use Rattle.std.proofs.Common.{ℕ, ◌≤◌, ltb, refl, zero-le, arith}
 use Rattle.std.proofs.lemmas.Bool.{cond_both, cond-false, le-ltb}
 use Rattle.rules.specs.Sizes.{boxes, most_units, sum}
 use Rattle.rules.specs.Values.{market, applied}

@@ -1,6 +1,6 @@
 -- That the law of runs is not empty: there are lawful terms, and histories in which each kind of thing that it speaks
 -- of happens.
-use Rattle.std.specs.Prelude.{◌≡◌, ℕ, List, [], ◌∷◌, Ok}
+use Rattle.std.specs.Prelude.{◌≡◌, [], ◌∷◌, Ok}
 use Rattle.rules.specs.States.{Lawful, made}
 use Rattle.rules.specs.Figures.{ask_customer, ask_participant}
 use Rattle.rules.specs.Orders.{withdraw, answer}

@@ -1,5 +1,7 @@
 // The crates as a client uses them. Figures and histories that the checker computes stand as contracts; figures of
 // the code, edges and bad input as tests, each proved safe and run.
+#![tactic(auto)]
+
 mod bad_input;
 mod claims;
 pub mod lender;

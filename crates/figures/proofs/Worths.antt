@@ -1,9 +1,9 @@
 -- What a box can be worth, at market and with the haircut applied.
-use Rattle.std.proofs.Common.{◌≡◌, ℕ, zero, suc, ◌-◌, ◌*◌, ◌/◌, ◌<◌, ◌≤◌, cond, ltb, Ok, Result, refl, mul-le-mul, mul-le-mul_left, arith}
+use Rattle.std.proofs.Common.{◌≡◌, ℕ, zero, suc, ◌-◌, ◌*◌, ◌<◌, ◌≤◌, Ok, refl, mul-le-mul, mul-le-mul_left, arith}
 use native.Mathlib.Nat.{div-le_of_le-mul}
 use Rattle.std.proofs.lemmas.Bool.Decides.{nat_tests}
 use Rattle.rules.specs.Sizes.{assets, most_price, most_units, most_haircut}
-use Rattle.rules.specs.Values.{scale, market, applied, market_answer, applied_answer}
+use Rattle.rules.specs.Values.{market, applied, market_answer, applied_answer}
 use Rattle.figures.specs.Bounds.{most_worth}
 
 -- at most 10^16 of priced units, which is divided by ten at least unless they are yen at 1

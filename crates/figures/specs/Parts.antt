@@ -1,5 +1,5 @@
 -- The four sums over its accounts from which a participant's figures follow.
-use Rattle.std.specs.Prelude.{ℕ, Bool, cond}
+use Rattle.std.specs.Prelude.{ℕ, cond}
 use Rattle.rules.specs.declared.row.AccountRow.{AccountRow}
 use Rattle.rules.specs.Claims.{own_pool_of, excess_of, withheld_of, claim_of, kept_of, passed_on_of, rest_of}
 use Rattle.rules.specs.Figures.{over, from_customer, claim, withheld, excess, pooled, rest, kept, passed_on, pool, charge}

@@ -1,11 +1,11 @@
 -- Net and gross margin, and the worst of losses, compared.
-use Rattle.std.proofs.Common.{◌≡◌, ℕ, zero, suc, ◌+◌, ◌*◌, ◌<◌, ◌≤◌, max, ◌⊎◌, List, [], get_or, ℤ, pos, negsuc, ◌≤ℤ◌, sym, refl, ◌∙◌, inl, inr, ⊎_elim, mul-le-mul_right, arith}
+use Rattle.std.proofs.Common.{◌≡◌, ℕ, zero, suc, ◌+◌, ◌<◌, ◌≤◌, ◌⊎◌, List, [], get_or, ℤ, pos, negsuc, ◌≤ℤ◌, sym, refl, inl, inr, ⊎_elim, mul-le-mul_right, arith}
 use Rattle.std.proofs.lemmas.Int.{ints}
 use Rattle.std.proofs.lemmas.Bool.{cases_eq, cases_lt}
 use Rattle.rules.specs.declared.row.Counts.{Counts}
 use Rattle.rules.specs.Sizes.{contracts}
 use Rattle.rules.proofs.Sums.{sum_less}
-use Rattle.margin.specs.Rates.{asked_at, asked, set_off, net_amount, gross_amount}
+use Rattle.margin.specs.Rates.{asked_at, asked, set_off}
 use Rattle.margin.specs.Losses.{scenarios, loss, above_0, largest, worst_loss}
 use Rattle.margin.specs.Comparisons.{NetAtMostGross, WorstIsALoss}
 

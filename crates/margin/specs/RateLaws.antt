@@ -1,11 +1,11 @@
 -- Margin by rates keeps the two laws of a margin method.
-use Rattle.std.specs.Prelude.{◌≡◌, ℕ, zero, suc, ◌+◌, ◌*◌, ◌<◌, ◌≤◌, List, replicate, slice_index, slice_index_or, refl}
+use Rattle.std.specs.Prelude.{◌≡◌, ℕ, zero, suc, ◌+◌, ◌<◌, ◌≤◌, List, replicate, slice_index, slice_index_or, refl}
 use Rattle.std.proofs.Common.{mul-le-mul, zero-mul, arith}
 use Rattle.rules.specs.declared.row.Counts.{Counts}
-use Rattle.rules.specs.Sizes.{contracts, most_count}
+use Rattle.rules.specs.Sizes.{contracts}
 use Rattle.rules.specs.States.{Countable, LawfulMethod, flat}
 use Rattle.rules.proofs.Sums.{sum_zero, sum_most}
-use Rattle.margin.specs.Rates.{Fair, asked_at, asked, set_off, net_amount, gross_amount}
+use Rattle.margin.specs.Rates.{Fair, asked_at, asked, set_off}
 
 -- what every way to count lots keeps to: none of none, and no more than all
 pub record Counting (lots : ℕ → ℕ → ℕ) : Type 0 where

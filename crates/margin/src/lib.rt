@@ -1,4 +1,6 @@
 // How much margin an account must be covered by: margin methods as a trait, and net, gross and worst-loss margin.
+#![tactic(auto)]
+
 pub mod comparisons;
 mod counting;
 pub mod counts;

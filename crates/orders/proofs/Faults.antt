@@ -3,7 +3,7 @@ use Rattle.std.proofs.Common.{◌≡◌, ℕ, zero, suc, ◌+◌, ◌-◌, ◌<�
 use Rattle.std.proofs.ByRecursion.{All-take, All-drop, All-append, All-from_get_or}
 use Rattle.std.proofs.lemmas.List.{append_assoc, length-append, length-drop, length-take-le, length-replicate, get_or-replicate, take-append-drop}
 use Rattle.std.proofs.lemmas.Bool.{cases_lt, lt-ltb, le-ltb, cond-true}
-use Rattle.rules.specs.declared.refusal.Refusal.TheVariants.{FileTooLong, UnknownKind, BodyCutShort}
+use Rattle.rules.specs.declared.refusal.Refusal.TheVariants.{UnknownKind, BodyCutShort}
 use Rattle.rules.specs.Orders.{Order}
 use Rattle.orders.specs.declared.fault.FileFault.{FileFault}
 use Rattle.orders.specs.Kinds.{Kind, size, kinds, found, order_in}

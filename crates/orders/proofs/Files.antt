@@ -1,13 +1,11 @@
 -- The law of files for bytes that are read: what is written reads back, and what reads as orders is what was written.
-use Rattle.std.proofs.Common.{◌≡◌, ℕ, zero, suc, ◌+◌, ◌-◌, ◌<◌, ◌≤◌, Bool, true, false, cond, eqb, ltb, List, [], ◌∷◌, ◌++◌, length, get_or, take, drop, Some, None, Ok, Err, Option, sym, refl, ap, ◌∙◌, ⊎_elim, arith}
+use Rattle.std.proofs.Common.{◌≡◌, ℕ, ◌+◌, ◌<◌, ◌≤◌, true, false, eqb, ltb, List, [], ◌∷◌, ◌++◌, length, get_or, take, drop, Some, None, Ok, Option, sym, refl, ap, ◌∙◌, ⊎_elim, arith}
 use Rattle.std.specs.List.{AllByRecursion as All}
-use Rattle.std.specs.Int.Digits.{AllBelowBase}
 use Rattle.std.proofs.ByRecursion.{All-take, All-drop}
-use Rattle.std.proofs.lemmas.List.{append-nil, append_assoc, length-append, take_at, drop_at, take-append-drop, length-take-le, take_all}
-use Rattle.std.proofs.lemmas.Bool.{cases_eq, cases_lt, eq-eqb, ne_eqb, eqb-true, le-ltb, lt-ltb, ltb-false, ltb-true, cond-true, cond-false, cases_Bool}
+use Rattle.std.proofs.lemmas.List.{length-append, take_at, drop_at, take-append-drop, length-take-le, take_all}
+use Rattle.std.proofs.lemmas.Bool.{cases_eq, cases_lt, eq-eqb, ne_eqb, le-ltb, lt-ltb, cond-true, cond-false}
 use Rattle.rules.specs.Orders.{Order, opening, mark, position, declare, deposit, withdraw, suspend, settle, seize}
-use Rattle.orders.specs.declared.fault.FileFault.{FileFault}
-use Rattle.orders.specs.Kinds.{Kind, size, kinds, found, total, numbers, order_in}
+use Rattle.orders.specs.Kinds.{Kind, size, kinds, found, numbers, order_in}
 use Rattle.orders.specs.Reading.{Reading, most_bytes, order_at, prepended, onward, orders_from, reading}
 use Rattle.orders.specs.Files.{kind_of, numbers_of, fields, Fitting, Fits, written, file_of, AllFit, FileOf, Bytes}
 use Rattle.orders.proofs.Walk.{passed_over, parted, short_reads, accepted_short}

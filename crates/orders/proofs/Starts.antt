@@ -1,10 +1,9 @@
 -- One order at a place of a file, by what its kind byte stands for.
-use Rattle.std.proofs.Common.{◌≡◌, ℕ, ◌+◌, ◌<◌, ◌≤◌, Bool, true, false, cond, ltb, List, length, get_or, take, drop, Some, None, Ok, Err, Option, Result, sym, refl, ap, ◌∙◌, ⊎_elim, arith}
+use Rattle.std.proofs.Common.{◌≡◌, ℕ, ◌+◌, ◌<◌, ◌≤◌, Bool, true, false, cond, ltb, List, length, get_or, take, drop, Some, None, Ok, Err, Option, sym, refl, ap, ◌∙◌, ⊎_elim, arith}
 use Rattle.std.proofs.lemmas.List.{length-drop, length-take-le}
 use Rattle.std.proofs.lemmas.Bool.{cases_lt, lt-ltb, le-ltb}
 use Rattle.std.proofs.lemmas.Bool.Decides.{nat_tests}
 use Rattle.rules.specs.declared.refusal.Refusal.TheVariants.{BodyCutShort}
-use Rattle.rules.specs.Orders.{Order}
 use Rattle.orders.specs.declared.fault.FileFault.{FileFault}
 use Rattle.orders.specs.declared.raw_order.RawOrder.{RawOrder}
 use Rattle.orders.specs.Kinds.{Kind, size, kinds, found, order_in}

@@ -1,4 +1,6 @@
 // The order file: what back offices send in, read and run on any margin book.
+#![tactic(auto)]
+
 pub mod accepted;
 pub mod fault;
 mod fields;

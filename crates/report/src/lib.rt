@@ -1,4 +1,6 @@
 // What the program `claims` prints of an order file.
+#![tactic(auto)]
+
 pub mod answer;
 mod entries;
 mod fields;

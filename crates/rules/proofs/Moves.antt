@@ -3,7 +3,7 @@ use Rattle.std.proofs.Common.{◌≡◌, ℕ, ◌+◌, ◌<◌, ◌≤◌, true,
 use Rattle.std.proofs.lemmas.Bool.{cases_eq, both_ways, eq-eqb, ne_eqb}
 use Rattle.rules.proofs.Sums.{sum_lower}
 use Rattle.rules.proofs.Balance.{over_same}
-use Rattle.rules.specs.Sizes.{accounts, participants}
+use Rattle.rules.specs.Sizes.{accounts}
 use Rattle.rules.specs.States.{State, is, under}
 use Rattle.rules.specs.Figures.{charge, claim, from_customer, kept, kept_from_pool, over, participant_claim, passed_on, pool, pooled, rest, retained}
 

@@ -4,7 +4,7 @@ use Rattle.rules.specs.declared.refusal.Refusal.{Refusal}
 use Rattle.rules.specs.declared.refusal.Refusal.TheVariants.{FileTooLong, UnknownKind, BodyCutShort, AnswerListTooShort, WrongAccount, WrongParticipant, WrongPocket, WrongAsset, OutOfRange, WrongStanding, OverLimit, TooFewUnits, BelowMaintenance, BeyondEntitlement, OpenPositions}
 use Rattle.rules.specs.Refusals.{decided, number, outcome_number}
 use Rattle.rules.specs.States.{State, Terms}
-use Rattle.rules.specs.Orders.{Order, after, answer, effect, step, tests}
+use Rattle.rules.specs.Orders.{Order, after, answer, effect, tests}
 
 abbrev pub Passed : List (Refusal × Bool) → Type 0
 Passed [] = Unit

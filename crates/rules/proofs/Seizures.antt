@@ -13,7 +13,7 @@ use Rattle.rules.specs.Sizes.{assets, house, pockets, put}
 use Rattle.rules.specs.Claims.{lesser, remainder}
 use Rattle.rules.specs.States.{State, Terms, known, participant_of}
 use Rattle.rules.specs.Figures.{excess, kept, kept_from_pool, pocket_value, replacement, rest, withheld}
-use Rattle.rules.specs.Orders.{after, answer, customer_draws, effect, leaving, no_such_pocket, paid_row, seize, seizure_barred, taken, with_row}
+use Rattle.rules.specs.Orders.{answer, customer_draws, effect, leaving, no_such_pocket, paid_row, seize, seizure_barred, taken, with_row}
 use Rattle.rules.specs.Law.{Exact, sum_retained}
 
 -- the book after a seizure of value v

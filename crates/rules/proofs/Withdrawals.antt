@@ -7,7 +7,7 @@ use Rattle.rules.proofs.Tiers.{Inputs, at_still, at_direct, at_pays, at_house}
 use Rattle.rules.proofs.Lowering.{LowerBy, own_sums, lowered_customer, lowered_participant}
 use Rattle.rules.proofs.Passed.{passed}
 use Rattle.rules.proofs.InStep.{Sound, low_participant}
-use Rattle.rules.specs.Sizes.{accounts, assets, box, house, pockets}
+use Rattle.rules.specs.Sizes.{assets, house, pockets}
 use Rattle.rules.specs.Claims.{lesser}
 use Rattle.rules.specs.States.{State, Terms, known, participant_of}
 use Rattle.rules.specs.Figures.{covering_value, kept_from_pool, maintenance_amount, pocket_value, replacement, withheld}

@@ -1,5 +1,5 @@
 -- The figures of a book in a given state: what each account and each participant has, may claim, and is kept from.
-use Rattle.std.specs.Prelude.{ℕ, ◌+◌, Bool, cond, not, ◌||◌, [], ◌∷◌, Ok, Err, Option, Result, nat_lt}
+use Rattle.std.specs.Prelude.{ℕ, ◌+◌, cond, not, ◌||◌, [], ◌∷◌, Ok, Err, Option, Result, nat_lt}
 use Rattle.rules.specs.declared.refusal.Refusal.{Refusal}
 use Rattle.rules.specs.declared.refusal.Refusal.TheVariants.{WrongAccount, WrongParticipant}
 use Rattle.rules.specs.Sizes.{accounts, participants, assets, boxes, box, house, sum}

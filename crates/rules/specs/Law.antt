@@ -5,7 +5,7 @@ use Rattle.rules.specs.Sizes.{participants}
 use Rattle.rules.specs.States.{State, Terms, Lawful, made, participant_of}
 use Rattle.rules.specs.Figures.{worth, over, covering_value, maintenance_amount, first_amount, second_amount, ask_customer, ask_participant}
 use Rattle.rules.specs.Orders.{Order, opening, mark, position, declare, deposit, withdraw, suspend, settle, seize, customer_draws, answer, after}
-use Rattle.rules.specs.Runs.{run, History, history, Tally, tally, total, accepted_for}
+use Rattle.rules.specs.Runs.{run, history, Tally, tally, total, accepted_for}
 
 -- (a) Nothing is lost and nothing is made. For each participant, what the customer question answers of its accounts as
 -- claims, what the participant question answers as its claim, and what it answers as the sum retained, add up to the

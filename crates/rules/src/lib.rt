@@ -1,5 +1,7 @@
 // What a margin book means: its sizes, values, claims, refusals, orders and questions. The meaning is in specs/; here
 // is the arithmetic of values, and the plain types that the meaning speaks of.
+#![tactic(auto)]
+
 pub mod boxes;
 pub mod law;
 pub mod refusal;

@@ -3,6 +3,8 @@
 // Participant 0 has one customer, on account 8. It placed replacement margin of 300 yen for the customer, whose own
 // margin with it is 200 yen; the customer owes it 50 yen, and it owes the clearing house 120 yen on that account. Its
 // house account has 30 yen deposited and 20 yen owed.
+#![tactic(auto)]
+
 mod entry;
 mod parties;
 

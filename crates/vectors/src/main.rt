@@ -4,6 +4,8 @@
 // It is run in the folder data/, where NNN.orders is an order file and NNN.claims its output. 000 is the worked sample;
 // 001 to 059 are made for a purpose each: every refusal of every order, sizes up to the limit and beyond, faults of a
 // file; 060 to 109 are random; 110 to 161 are the sample cut at every length; 162 is the default in examples/.
+#![tactic(auto)]
+
 use report::answer::answer;
 use std::fs;
 

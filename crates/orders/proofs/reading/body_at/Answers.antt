@@ -1,4 +1,4 @@
-use Rattle.std.proofs.Common.{sym, ◌∙◌, rules}
+use Rattle.std.proofs.Common.{◌∙◌, rules}
 use Rattle.orders.proofs.Starts.{body_by_size}
 use Rattle.orders.proofs.reading.body_at.Goals as goal
 

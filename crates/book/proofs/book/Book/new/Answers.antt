@@ -1,4 +1,4 @@
-use Rattle.std.proofs.Common.{◌≡◌, ℕ, ap, ◌∙◌}
+use Rattle.std.proofs.Common.{ℕ, ap, ◌∙◌}
 use mathlib.Core.Path.{fun_ext}
 use Rattle.rules.specs.States.{Terms, made}
 use Rattle.rules.specs.Orders.{with_held}

@@ -4,10 +4,10 @@ use Rattle.rules.specs.declared.row.AccountRow.{AccountRow}
 use Rattle.rules.specs.Sizes.{accounts, box, put}
 use Rattle.rules.specs.Refusals.{Outcome}
 use Rattle.rules.specs.States.{State, known}
-use Rattle.rules.specs.Orders.{tests, effect, seize, taken, leaving, paid_row, fewer}
+use Rattle.rules.specs.Orders.{tests, effect, seize, paid_row}
 use Rattle.rules.proofs.Decided.{decided_refused, decided_accepted, answered_value, answered_passed}
 use Rattle.custody.specs.Boxes.{Boxes}
-use Rattle.book.specs.States.{rows_of, state_of, terms_of}
+use Rattle.book.specs.States.{state_of, terms_of}
 use Rattle.book.proofs.Taking.{took, not_both, with_both}
 use Rattle.book.proofs.book.BookMarginBook.seize.Goals as goal
 

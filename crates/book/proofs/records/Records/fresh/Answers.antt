@@ -1,4 +1,4 @@
-use Rattle.std.proofs.Common.{◌≡◌, ℕ, None, Option}
+use Rattle.std.proofs.Common.{None}
 use mathlib.Core.Path.{fun_ext}
 use Rattle.rules.specs.declared.standing.Standing.TheVariants.{Active}
 use Rattle.rules.specs.Sizes.{accounts, participants}

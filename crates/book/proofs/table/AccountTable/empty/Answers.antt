@@ -1,4 +1,4 @@
-use Rattle.std.proofs.Common.{◌≡◌, List, get_or, replicate, sym, subst}
+use Rattle.std.proofs.Common.{◌≡◌, get_or, replicate, sym, subst}
 use mathlib.Core.Path.{fun_ext}
 use Rattle.rules.specs.declared.row.AccountRow.{AccountRow}
 use Rattle.rules.specs.Sizes.{accounts}

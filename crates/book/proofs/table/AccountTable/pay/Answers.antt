@@ -1,6 +1,5 @@
-use Rattle.std.proofs.Common.{◌≡◌, ℕ, ◌-◌, ◌<◌, ◌≤◌, Bool, true, false, cond, ◌&&◌, eqb, length, get_or, refl, arith, rules}
+use Rattle.std.proofs.Common.{◌≡◌, ℕ, ◌-◌, ◌<◌, ◌≤◌, Bool, true, false, cond, ◌&&◌, eqb, length, get_or, arith, rules}
 use Rattle.rules.specs.declared.row.AccountRow.{AccountRow}
-use Rattle.rules.specs.Sizes.{participants}
 use Rattle.rules.specs.States.{Affordable, Customerless, RowAllowed, empty_row}
 use Rattle.rules.specs.Orders.{paid_row}
 use Rattle.book.specs.States.{rows_of}

@@ -1,6 +1,6 @@
 use Rattle.std.proofs.Common.{◌≡◌, ℕ, ◌-◌, ◌<◌, ◌≤◌, false, ltb, List, ap, ◌∙◌, arith, rules}
 use Rattle.std.proofs.lemmas.Bool.{le-ltb}
-use Rattle.rules.specs.Sizes.{boxes as box_count, most_units}
+use Rattle.rules.specs.Sizes.{boxes as box_count}
 use Rattle.custody.specs.CustodyLaws.{limit_bounded}
 use Rattle.custody.specs.Pages.{room, page, stored}
 use Rattle.custody.proofs.Words.{limit_same, held_stored}

@@ -1,4 +1,4 @@
-use Rattle.std.proofs.Common.{◌≡◌, ℕ, ◌<◌, ◌≤◌, List, [], map, length, get_or, set, ℤ, sym, refl, ap, ◌∙◌, arith, rules}
+use Rattle.std.proofs.Common.{◌<◌, ◌≤◌, List, [], map, length, set, ℤ, ap, ◌∙◌, rules}
 use Rattle.margin.specs.Losses.{nearest}
 use Rattle.margin.proofs.Clamping.{map_all, map_next}
 use Rattle.margin.proofs.Signs.{rows_near}

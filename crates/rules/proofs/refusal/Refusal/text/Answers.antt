@@ -1,4 +1,4 @@
-use Rattle.std.proofs.Common.{sym, refl, ap}
+use Rattle.std.proofs.Common.{sym, ap}
 use Rattle.rules.specs.Wordings.{wording}
 use Rattle.rules.proofs.refusal.Refusal.text.Goals as goal
 
