@@ -6,20 +6,20 @@ use Rattle.rules.specs.declared.standing.Standing.{Standing}
 use Rattle.rules.specs.Sizes.{accounts, contracts}
 use Rattle.rules.specs.States.{State, Countable, flat, empty_row, made}
 use Rattle.rules.specs.Orders.{with_held}
-use Rattle.rules.proofs.Same.{getD_same}
+use Rattle.rules.proofs.Same.{get_or_same}
 use Rattle.book.specs.Tables.{AllCountable, AllAffordable, HousesCustomerless}
 
 countable : Countable flat
-countable k h = (rw (getD_same {X = ℕ} contracts 0 k) (omega arith), rw (getD_same {X = ℕ} contracts 0 k) (omega arith))
+countable k h = (rw (get_or_same {X = ℕ} contracts 0 k) (omega arith), rw (get_or_same {X = ℕ} contracts 0 k) (omega arith))
 
 pub all_countable : AllCountable (replicate accounts empty_row)
-all_countable account = rw (getD_same accounts empty_row account) countable
+all_countable account = rw (get_or_same accounts empty_row account) countable
 
 pub all_affordable : AllAffordable (replicate accounts empty_row)
-all_affordable account = rw (getD_same accounts empty_row account) (omega arith, omega arith, omega arith)
+all_affordable account = rw (get_or_same accounts empty_row account) (omega arith, omega arith, omega arith)
 
 pub houses_customerless : HousesCustomerless (replicate accounts empty_row)
-houses_customerless account h = rw (getD_same accounts empty_row account) (refl, refl)
+houses_customerless account h = rw (get_or_same accounts empty_row account) (refl, refl)
 
 pub fresh_prices : (asset : ℕ) → ◌≡◌ {A = ℕ} (get_or (1 ∷ 0 ∷ 0 ∷ 0 ∷ []) asset 0) (cond (eqb asset 0) 1 0)
 fresh_prices zero = refl

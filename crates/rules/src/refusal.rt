@@ -1,5 +1,5 @@
 ghost use Rattle.std.specs.Prelude.{◌≡◌, Some};
-ghost use Rattle.rules.specs.Refusals.{number as number_of_lem};
+ghost use Rattle.rules.specs.Refusals.{number as number_of};
 ghost use Rattle.rules.specs.Wordings.{wording};
 
 use std::fmt;
@@ -27,7 +27,7 @@ pub enum Refusal {
 impl Refusal {
     /// The number by which the refusal is told in answer lists, 1 to 15; 0 stands for accepted.
     pub fn number(self) -> u8
-        ensures { result ≡ number_of_lem self }
+        ensures { result ≡ number_of self }
     {
         match self {
             Refusal::FileTooLong => 1,

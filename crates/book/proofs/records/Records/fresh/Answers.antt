@@ -3,10 +3,10 @@ use mathlib.Core.Path.{fun_ext}
 use Rattle.rules.specs.declared.standing.Standing.TheVariants.{Active}
 use Rattle.rules.specs.Sizes.{accounts, participants}
 use Rattle.rules.specs.States.{made}
-use Rattle.rules.proofs.Same.{getD_same}
+use Rattle.rules.proofs.Same.{get_or_same}
 use Rattle.book.proofs.Fresh.{fresh_prices, fresh_haircuts, fresh_is}
 use Rattle.book.proofs.records.Records.fresh.Goals as goal
 
 pub returns : goal.returns
 unfolding made
-returns c boxes = fresh_is _ _ _ _ _ boxes.held c.empty.ensures (fun_ext (getD_same accounts None)) (fun_ext (getD_same participants Active)) (fun_ext fresh_prices) (fun_ext fresh_haircuts)
+returns c boxes = fresh_is _ _ _ _ _ boxes.held c.empty.ensures (fun_ext (get_or_same accounts None)) (fun_ext (get_or_same participants Active)) (fun_ext fresh_prices) (fun_ext fresh_haircuts)

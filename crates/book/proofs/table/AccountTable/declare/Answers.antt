@@ -5,7 +5,7 @@ use Rattle.rules.specs.Sizes.{participants, most_amount}
 use Rattle.rules.specs.States.{RowAllowed}
 use Rattle.rules.specs.Orders.{declared_row, amounts_out_of_range}
 use Rattle.book.specs.States.{rows_of}
-use Rattle.book.proofs.Writes.{rows_written, rows_kept}
+use Rattle.book.proofs.Writes.{rows_written, table_kept}
 use Rattle.book.proofs.table.AccountTable.declare.Goals as goal
 
 -- what amounts that are not out of range keep to
@@ -26,8 +26,8 @@ invariant_of-self c =
       amounts = affordable a.account a.customer_margin a.customer_debt a.participant_debt c.requires.amounts;
       house_row = customerless a.account a.customer_margin a.customer_debt a.participant_debt c.requires.amounts;
     } in
-    let kept = rows_kept t.rows a.account row _ _ l c.declare_row.ensures t.countable t.affordable t.customerless allowed in
-    record { countable = kept.0; affordable = kept.1; customerless = kept.2 }
+    let kept = table_kept t.rows a.account row _ _ l c.declare_row.ensures t.countable t.affordable t.customerless allowed in
+    record { countable = kept.0; affordable = kept.1.0; customerless = kept.1.1.0 }
 
 pub returns : goal.returns
 unfolding rows_of

@@ -3,7 +3,7 @@ use mathlib.Core.Path.{fun_ext}
 use Rattle.rules.specs.declared.row.AccountRow.{AccountRow}
 use Rattle.rules.specs.Sizes.{accounts}
 use Rattle.rules.specs.States.{empty_row, made}
-use Rattle.rules.proofs.Same.{getD_same}
+use Rattle.rules.proofs.Same.{get_or_same}
 use Rattle.book.specs.Tables.{AllCountable, AllAffordable, HousesCustomerless}
 use Rattle.book.specs.States.{rows_of}
 use Rattle.book.proofs.Fresh.{all_countable, all_affordable, houses_customerless}
@@ -20,4 +20,4 @@ invariant_of-result c =
 
 pub returns : goal.returns
 unfolding rows_of made
-returns c = subst (λ (r : AccountRow). (λ a. get_or (replicate accounts r) a empty_row) ≡ made.rows) (sym c.empty.ensures) (fun_ext (getD_same accounts empty_row))
+returns c = subst (λ (r : AccountRow). (λ a. get_or (replicate accounts r) a empty_row) ≡ made.rows) (sym c.empty.ensures) (fun_ext (get_or_same accounts empty_row))

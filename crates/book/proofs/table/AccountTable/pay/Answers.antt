@@ -3,7 +3,7 @@ use Rattle.rules.specs.declared.row.AccountRow.{AccountRow}
 use Rattle.rules.specs.States.{Affordable, Customerless, RowAllowed, empty_row}
 use Rattle.rules.specs.Orders.{paid_row}
 use Rattle.book.specs.States.{rows_of}
-use Rattle.book.proofs.Writes.{rows_written, rows_kept}
+use Rattle.book.proofs.Writes.{rows_written, table_kept}
 use Rattle.book.proofs.table.AccountTable.pay.Goals as goal
 
 -- an amount that falls, or stays, keeps to its limit, and stays 0 if it was
@@ -39,8 +39,8 @@ invariant_of-self c =
       amounts = affordable a.side a.pocket a.value old (t.affordable a.account);
       house_row = λ h. customerless a.side a.pocket a.value old (t.customerless a.account h);
     } in
-    let kept = rows_kept t.rows a.account (paid_row a.side a.pocket a.value) _ _ l c.pay_row.ensures t.countable t.affordable t.customerless allowed in
-    record { countable = kept.0; affordable = kept.1; customerless = kept.2 }
+    let kept = table_kept t.rows a.account (paid_row a.side a.pocket a.value) _ _ l c.pay_row.ensures t.countable t.affordable t.customerless allowed in
+    record { countable = kept.0; affordable = kept.1.0; customerless = kept.1.1.0 }
 
 pub returns : goal.returns
 unfolding rows_of

@@ -5,7 +5,7 @@ use Rattle.rules.specs.Sizes.{contracts, most_count}
 use Rattle.rules.specs.States.{Countable, RowAllowed, empty_row}
 use Rattle.rules.specs.Orders.{positioned_row, counts_out_of_range}
 use Rattle.book.specs.States.{rows_of}
-use Rattle.book.proofs.Writes.{each_set, rows_written, rows_kept}
+use Rattle.book.proofs.Writes.{each_set, rows_written, table_kept}
 use Rattle.book.proofs.table.AccountTable.position.Goals as goal
 
 -- what counts that are not out of range keep to
@@ -33,8 +33,8 @@ invariant_of-self c =
       amounts = t.affordable a.account;
       house_row = t.customerless a.account;
     } in
-    let kept = rows_kept t.rows a.account row _ _ l c.position_row.ensures t.countable t.affordable t.customerless allowed in
-    record { countable = kept.0; affordable = kept.1; customerless = kept.2 }
+    let kept = table_kept t.rows a.account row _ _ l c.position_row.ensures t.countable t.affordable t.customerless allowed in
+    record { countable = kept.0; affordable = kept.1.0; customerless = kept.1.1.0 }
 
 pub returns : goal.returns
 unfolding rows_of
