@@ -94,7 +94,7 @@ applied_pocket s account pocket = sum assets (λ asset. applied (worth s.price s
 unfoldable pub maintenance_amount : Terms → State → ℕ → ℕ
 maintenance_amount T s account = cond (house account) (T.house_amount (s.rows account).counts) (T.customer_amount (s.rows account).counts)
 
--- The three questions. They change nothing, and the participant's standing plays no part in them.
+-- The questions. They change nothing, and the participant's standing plays no part in them.
 
 -- two amounts, or a refusal
 abbrev pub Amounts : Type 0

@@ -5,5 +5,5 @@ use Rattle.book.proofs.book.BookMarginBook.law_of_runs.Goals as goal
 pub returns : goal.returns
 returns g c =
     let book = c.args.self.now in
-    let terms-lawful = lawful g.Custody.Custodian.boxes g.Custody.Custodian.laws book.custody (g.HouseMethod.MarginMethod.amount book.house) (g.CustomerMethod.MarginMethod.amount book.customers) (g.HouseMethod.MarginMethod.laws book.house) (g.CustomerMethod.MarginMethod.laws book.customers) in
-    record { lawful = terms-lawful; stands = law _ terms-lawful }
+    let terms_lawful = lawful g.Custody.Custodian.boxes g.Custody.Custodian.laws book.custody (g.HouseMethod.MarginMethod.amount book.house) (g.CustomerMethod.MarginMethod.amount book.customers) (g.HouseMethod.MarginMethod.laws book.house) (g.CustomerMethod.MarginMethod.laws book.customers) in
+    record { lawful = terms_lawful; stands = law _ terms_lawful }
