@@ -21,8 +21,8 @@ record Alike (c : ℕ) (s t : State) : Type 0 where
   opened_alike : s.opened c ≡ t.opened c
   price_alike : (x : ℕ) → s.price x ≡ t.price x
   held_alike : (j : ℕ) → j < 8 → s.held (c * 8 + j) ≡ t.held (c * 8 + j)
-  margin_alike : (s.rows c).customer_margin ≡ (t.rows c).customer_margin
-  debt_alike : (s.rows c).customer_debt ≡ (t.rows c).customer_debt
+  margin_alike : (s.rows c).declared.customer_margin ≡ (t.rows c).declared.customer_margin
+  debt_alike : (s.rows c).declared.customer_debt ≡ (t.rows c).declared.customer_debt
 
 alike_self : (c : ℕ) (s : State) → Alike c s s
 alike_self c s = record { opened_alike = refl; price_alike = λ x. refl; held_alike = λ j h. refl; margin_alike = refl; debt_alike = refl }
@@ -50,13 +50,13 @@ put_both f g h i j x y here there = go (cases_eq j i)
 
 -- one part of both states changes: rows, boxes or a standing
 module _ (c : ℕ) (s t : State) (l : Alike c s t) where
-  both_row : (a : ℕ) (q r : AccountRow) → (c ≡ a → (q.customer_margin ≡ r.customer_margin) × (q.customer_debt ≡ r.customer_debt)) → Alike c (with_row s a q) (with_row t a r)
+  both_row : (a : ℕ) (q r : AccountRow) → (c ≡ a → (q.declared.customer_margin ≡ r.declared.customer_margin) × (q.declared.customer_debt ≡ r.declared.customer_debt)) → Alike c (with_row s a q) (with_row t a r)
   both_row a q r e = record {
     opened_alike = l.opened_alike;
     price_alike = l.price_alike;
     held_alike = l.held_alike;
-    margin_alike = put_both (λ r. r.customer_margin) s.rows t.rows a c q r (λ h. (e h).0) l.margin_alike;
-    debt_alike = put_both (λ r. r.customer_debt) s.rows t.rows a c q r (λ h. (e h).1) l.debt_alike;
+    margin_alike = put_both (λ r. r.declared.customer_margin) s.rows t.rows a c q r (λ h. (e h).0) l.margin_alike;
+    debt_alike = put_both (λ r. r.declared.customer_debt) s.rows t.rows a c q r (λ h. (e h).1) l.debt_alike;
   }
 
   -- units in a box, by the same change of what each holds
@@ -81,8 +81,8 @@ module _ (c : ℕ) (s t : State) (l : Alike c s t) where
         opened_alike = l.opened_alike;
         price_alike = l.price_alike;
         held_alike = l.held_alike;
-        margin_alike = ap (λ r. r.customer_margin) q ∙ l.margin_alike;
-        debt_alike = ap (λ r. r.customer_debt) q ∙ l.debt_alike;
+        margin_alike = ap (λ r. r.declared.customer_margin) q ∙ l.margin_alike;
+        debt_alike = ap (λ r. r.declared.customer_debt) q ∙ l.debt_alike;
       }
 
   other_held : (a k x n : ℕ) → eqb a c ≡ false → k < pockets → x < assets → Alike c (with_held s (put s.held (box a k x) n)) t
@@ -110,8 +110,8 @@ module _ (T : Terms) (c : ℕ) (s t : State) (l : Alike c s t) where
       ap₂ (λ (m n : ℕ). m - n) before now
 
   paid_alike : (side a k x b n : ℕ) → answer T s (seize side a k x b n) ≡ 0 → c ≡ b →
-      ((paid_row side k (leaving s (taken s a k x n) a k x) (s.rows b)).customer_margin ≡ (paid_row side k (leaving t (taken t a k x n) a k x) (t.rows b)).customer_margin) ×
-      ((paid_row side k (leaving s (taken s a k x n) a k x) (s.rows b)).customer_debt ≡ (paid_row side k (leaving t (taken t a k x n) a k x) (t.rows b)).customer_debt)
+      ((paid_row side k (leaving s (taken s a k x n) a k x) (s.rows b)).declared.customer_margin ≡ (paid_row side k (leaving t (taken t a k x n) a k x) (t.rows b)).declared.customer_margin) ×
+      ((paid_row side k (leaving s (taken s a k x n) a k x) (s.rows b)).declared.customer_debt ≡ (paid_row side k (leaving t (taken t a k x n) a k x) (t.rows b)).declared.customer_debt)
   paid_alike side a k x b n e q = go (eqb side 0) refl
     where
       al : Allowed s side a k x b n
@@ -123,13 +123,13 @@ module _ (T : Terms) (c : ℕ) (s t : State) (l : Alike c s t) where
       vt : ℕ
       vt = leaving t (taken t a k x n) a k x
 
-      m : (s.rows b).customer_margin ≡ (t.rows b).customer_margin
-      m = subst (λ i. (s.rows i).customer_margin ≡ (t.rows i).customer_margin) q l.margin_alike
+      m : (s.rows b).declared.customer_margin ≡ (t.rows b).declared.customer_margin
+      m = subst (λ i. (s.rows i).declared.customer_margin ≡ (t.rows i).declared.customer_margin) q l.margin_alike
 
-      d : (s.rows b).customer_debt ≡ (t.rows b).customer_debt
-      d = subst (λ i. (s.rows i).customer_debt ≡ (t.rows i).customer_debt) q l.debt_alike
+      d : (s.rows b).declared.customer_debt ≡ (t.rows b).declared.customer_debt
+      d = subst (λ i. (s.rows i).declared.customer_debt ≡ (t.rows i).declared.customer_debt) q l.debt_alike
 
-      go : (z : Bool) → eqb side 0 ≡ z → ((paid_row side k vs (s.rows b)).customer_margin ≡ (paid_row side k vt (t.rows b)).customer_margin) × ((paid_row side k vs (s.rows b)).customer_debt ≡ (paid_row side k vt (t.rows b)).customer_debt)
+      go : (z : Bool) → eqb side 0 ≡ z → ((paid_row side k vs (s.rows b)).declared.customer_margin ≡ (paid_row side k vt (t.rows b)).declared.customer_margin) × ((paid_row side k vs (s.rows b)).declared.customer_debt ≡ (paid_row side k vt (t.rows b)).declared.customer_debt)
       go true z =
           let p = or_parts (house a) (not (eqb a b)) (rw z at al.sides_ok) in
           let f : c ≡ a = q ∙ sym (eqb-true a b (not-false (eqb a b) p.1)) in

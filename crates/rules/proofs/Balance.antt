@@ -56,7 +56,7 @@ module _ (s : State) where
   -- what the tiers behind the own pool share out, by the general law
   tiers_2_3 : (a : ℕ) → claim s a + (passed_on s a + 0) + kept s a ≡ own_pool s a
   unfolding claim withheld passed_on kept
-  tiers_2_3 a = shared_out (own_pool s a) ((s.rows a).customer_debt ∷ (s.rows a).participant_debt ∷ [])
+  tiers_2_3 a = shared_out (own_pool s a) ((s.rows a).declared.customer_debt ∷ (s.rows a).declared.participant_debt ∷ [])
 
   -- an account's value is parted among its tiers
   parted : (a : ℕ) → account_value s.price s.held a ≡ from_customer (claim s) a + from_customer (passed_on s) a + from_customer (kept s) a + pooled s a

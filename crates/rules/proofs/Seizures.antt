@@ -45,19 +45,19 @@ allowed T s side a k x b n e =
       right = p.1.1.1.1.1.1.1.0;
     }
 
-kept_low : (s : State) (c : ℕ) → (kept s c ≤ (s.rows c).customer_debt) × (kept s c ≤ (s.rows c).participant_debt)
+kept_low : (s : State) (c : ℕ) → (kept s c ≤ (s.rows c).declared.customer_debt) × (kept s c ≤ (s.rows c).declared.participant_debt)
 unfolding kept withheld
 kept_low s c = (omega arith, omega arith)
 
-rest_low : (s : State) (c : ℕ) → rest s c ≤ (s.rows c).participant_debt
+rest_low : (s : State) (c : ℕ) → rest s c ≤ (s.rows c).declared.participant_debt
 unfolding rest
 rest_low s c = go (house c)
   where
-    go : (h : Bool) → cond h (s.rows c).participant_debt (remainder (s.rows c).participant_debt (withheld s c)) ≤ (s.rows c).participant_debt
+    go : (h : Bool) → cond h (s.rows c).declared.participant_debt (remainder (s.rows c).declared.participant_debt (withheld s c)) ≤ (s.rows c).declared.participant_debt
     go true = omega arith
     go false = omega arith
 
-rest_customer : (s : State) (c : ℕ) → house c ≡ false → rest s c ≡ remainder (s.rows c).participant_debt (withheld s c)
+rest_customer : (s : State) (c : ℕ) → house c ≡ false → rest s c ≡ remainder (s.rows c).declared.participant_debt (withheld s c)
 unfolding rest
 rest_customer s c h = rw h refl
 
@@ -75,22 +75,22 @@ module _ (s : State) (side a k x n : ℕ) (z : eqb side 0 ≡ true) (sd : Sound 
   row : put s.rows a (paid_row side k (leaving s (taken s a k x n) a k x) (s.rows a)) a ≡ paid_row side k (leaving s (taken s a k x n) a k x) (s.rows a)
   row = put_here s.rows a _
 
-  right_0 : (eqb v 0 ≡ false) × (v ≤ kept s a) × (k ≡ 1 → v ≤ lesser (replacement s a) (s.rows a).customer_margin)
+  right_0 : (eqb v 0 ≡ false) × (v ≤ kept s a) × (k ≡ 1 → v ≤ lesser (replacement s a) (s.rows a).declared.customer_margin)
   unfolding seizure_barred v
   right_0 =
       let p = or_parts (eqb v 0) _ al.right in
-      let q = or_parts (ltb (kept s a) v) (eqb k 1 && ltb (lesser (replacement s a) (s.rows a).customer_margin) v) (rw z at p.1) in
+      let q = or_parts (ltb (kept s a) v) (eqb k 1 && ltb (lesser (replacement s a) (s.rows a).declared.customer_margin) v) (rw z at p.1) in
       (p.0, ltb-false _ _ q.0, λ e. ltb-false _ _ (rw (eq-eqb k 1 e) at q.1))
 
   at_payer : house a ≡ false → At s (seized s side a k x a n) a 0 0 0 (leaving s (taken s a k x n) a k x)
   unfolding v
   at_payer h = go (cases_eq k 0)
     where
-      debt_in : (put s.rows a (paid_row side k v (s.rows a)) a).customer_debt + v ≡ (s.rows a).customer_debt
-      debt_in = let l = kept_low s a in let f = ap (λ r. r.customer_debt) row in let g : (paid_row side k v (s.rows a)).customer_debt ≡ (s.rows a).customer_debt - v = rw z refl in let w = right_0.1 in omega arith
+      debt_in : (put s.rows a (paid_row side k v (s.rows a)) a).declared.customer_debt + v ≡ (s.rows a).declared.customer_debt
+      debt_in = let l = kept_low s a in let f = ap (λ r. r.declared.customer_debt) row in let g : (paid_row side k v (s.rows a)).declared.customer_debt ≡ (s.rows a).declared.customer_debt - v = rw z refl in let w = right_0.1 in omega arith
 
-      due_in : (put s.rows a (paid_row side k v (s.rows a)) a).participant_debt + v ≡ (s.rows a).participant_debt
-      due_in = let l = kept_low s a in let f = ap (λ r. r.participant_debt) row in let w = right_0.1 in omega arith
+      due_in : (put s.rows a (paid_row side k v (s.rows a)) a).declared.participant_debt + v ≡ (s.rows a).declared.participant_debt
+      due_in = let l = kept_low s a in let f = ap (λ r. r.declared.participant_debt) row in let w = right_0.1 in omega arith
 
       go : (k ≡ 0) ⊎ (k ≡ 0 → ⊥) → At s (seized s side a k x a n) a 0 0 0 v
       go (inl e) =
@@ -98,7 +98,7 @@ module _ (s : State) (side a k x n : ℕ) (z : eqb side 0 ≡ true) (sd : Sound 
           (record {
             direct_in = left_here s a k x n hk al.asset_ok 0 e;
             replaced_in = left_there s a k x n hk al.asset_ok a 1 (omega arith) (λ g f. omega arith);
-            margin_in = let f = ap (λ r. r.customer_margin) row in let g : (paid_row side k v (s.rows a)).customer_margin ≡ (s.rows a).customer_margin = rw (z, e) refl in omega arith;
+            margin_in = let f = ap (λ r. r.declared.customer_margin) row in let g : (paid_row side k v (s.rows a)).declared.customer_margin ≡ (s.rows a).declared.customer_margin = rw (z, e) refl in omega arith;
             debt_in = debt_in;
             due_in = due_in;
           })
@@ -109,7 +109,7 @@ module _ (s : State) (side a k x n : ℕ) (z : eqb side 0 ≡ true) (sd : Sound 
           (record {
             direct_in = left_there s a k x n hk al.asset_ok a 0 (omega arith) (λ g f. omega arith);
             replaced_in = left_here s a k x n hk al.asset_ok 1 e;
-            margin_in = let f = ap (λ r. r.customer_margin) row in let g : (paid_row side k v (s.rows a)).customer_margin ≡ (s.rows a).customer_margin - v = rw (z, eq-eqb k 1 e) refl in let w = right_0.2 e in omega arith;
+            margin_in = let f = ap (λ r. r.declared.customer_margin) row in let g : (paid_row side k v (s.rows a)).declared.customer_margin ≡ (s.rows a).declared.customer_margin - v = rw (z, eq-eqb k 1 e) refl in let w = right_0.2 e in omega arith;
             debt_in = debt_in;
             due_in = due_in;
           })
@@ -125,9 +125,9 @@ module _ (s : State) (side a k x n : ℕ) (z : eqb side 0 ≡ true) (sd : Sound 
       at_still s (seized s side a k x a n) c (record {
         direct_in = left_there s a k x n hk al.asset_ok c 0 (omega arith) (λ e f. q e);
         replaced_in = left_there s a k x n hk al.asset_ok c 1 (omega arith) (λ e f. q e);
-        margin_in = add-zero _ ∙ ap (λ r. r.customer_margin) (rows_still c q);
-        debt_in = add-zero _ ∙ ap (λ r. r.customer_debt) (rows_still c q);
-        due_in = add-zero _ ∙ ap (λ r. r.participant_debt) (rows_still c q);
+        margin_in = add-zero _ ∙ ap (λ r. r.declared.customer_margin) (rows_still c q);
+        debt_in = add-zero _ ∙ ap (λ r. r.declared.customer_debt) (rows_still c q);
+        due_in = add-zero _ ∙ ap (λ r. r.declared.participant_debt) (rows_still c q);
       })
 
   lowered_0 : house a ≡ false → LowerBy (sum_retained (participant_of s a)) (leaving s (taken s a k x n) a k x) s (seized s side a k x a n)
@@ -170,36 +170,36 @@ module _ (s : State) (side a k x b n : ℕ) (z : eqb side 0 ≡ false) (sd : Sou
   pays_not : (c j : ℕ) → j < pockets → (c ≡ a → ⊥) → pocket_value s.price (taken s a k x n).held c j + on a u c ≡ pocket_value s.price s.held c j
   pays_not c j hj q = rw (off a c q) (left_there s a k x n hk1 al.asset_ok c j hj (λ g f. q g))
 
-  due_by : (c : ℕ) → ((seized s side a k x b n).rows c).participant_debt + on b u c ≡ (s.rows c).participant_debt
+  due_by : (c : ℕ) → ((seized s side a k x b n).rows c).declared.participant_debt + on b u c ≡ (s.rows c).declared.participant_debt
   unfolding u
   due_by c = go (cases_eq c b)
     where
-      go : (c ≡ b) ⊎ (c ≡ b → ⊥) → (put s.rows b (paid_row side k u (s.rows b)) c).participant_debt + on b u c ≡ (s.rows c).participant_debt
+      go : (c ≡ b) ⊎ (c ≡ b → ⊥) → (put s.rows b (paid_row side k u (s.rows b)) c).declared.participant_debt + on b u c ≡ (s.rows c).declared.participant_debt
       go (inl q) =
-          let here = ap (λ r. r.participant_debt) (put_here s.rows b (paid_row side k u (s.rows b))) in
+          let here = ap (λ r. r.declared.participant_debt) (put_here s.rows b (paid_row side k u (s.rows b))) in
           let w = right_1.0 in
           let l = rest_low s b in
           rw (upon b c q) (rw q (omega arith))
-      go (inr q) = rw (off b c q) (add-zero _ ∙ ap (λ r. r.participant_debt) (put_there s.rows b _ c q))
+      go (inr q) = rw (off b c q) (add-zero _ ∙ ap (λ r. r.declared.participant_debt) (put_there s.rows b _ c q))
 
   -- customer margin and customer's debt stay
-  row_by : (c : ℕ) → (((seized s side a k x b n).rows c).customer_margin + 0 ≡ (s.rows c).customer_margin) × (((seized s side a k x b n).rows c).customer_debt + 0 ≡ (s.rows c).customer_debt)
+  row_by : (c : ℕ) → (((seized s side a k x b n).rows c).declared.customer_margin + 0 ≡ (s.rows c).declared.customer_margin) × (((seized s side a k x b n).rows c).declared.customer_debt + 0 ≡ (s.rows c).declared.customer_debt)
   row_by c = go (cases_eq c b)
     where
       r : AccountRow
       r = paid_row side k (leaving s (taken s a k x n) a k x) (s.rows b)
 
-      go : (c ≡ b) ⊎ (c ≡ b → ⊥) → ((put s.rows b r c).customer_margin + 0 ≡ (s.rows c).customer_margin) × ((put s.rows b r c).customer_debt + 0 ≡ (s.rows c).customer_debt)
+      go : (c ≡ b) ⊎ (c ≡ b → ⊥) → ((put s.rows b r c).declared.customer_margin + 0 ≡ (s.rows c).declared.customer_margin) × ((put s.rows b r c).declared.customer_debt + 0 ≡ (s.rows c).declared.customer_debt)
       go (inl q) =
-          let m : r.customer_margin ≡ (s.rows b).customer_margin = rw z refl in
-          let d : r.customer_debt ≡ (s.rows b).customer_debt = rw z refl in
-          rw q (add-zero _ ∙ ap (λ r. r.customer_margin) (put_here s.rows b r) ∙ m, add-zero _ ∙ ap (λ r. r.customer_debt) (put_here s.rows b r) ∙ d)
-      go (inr q) = (add-zero _ ∙ ap (λ r. r.customer_margin) (put_there s.rows b r c q), add-zero _ ∙ ap (λ r. r.customer_debt) (put_there s.rows b r c q))
+          let m : r.declared.customer_margin ≡ (s.rows b).declared.customer_margin = rw z refl in
+          let d : r.declared.customer_debt ≡ (s.rows b).declared.customer_debt = rw z refl in
+          rw q (add-zero _ ∙ ap (λ r. r.declared.customer_margin) (put_here s.rows b r) ∙ m, add-zero _ ∙ ap (λ r. r.declared.customer_debt) (put_here s.rows b r) ∙ d)
+      go (inr q) = (add-zero _ ∙ ap (λ r. r.declared.customer_margin) (put_there s.rows b r c q), add-zero _ ∙ ap (λ r. r.declared.customer_debt) (put_there s.rows b r c q))
 
-  rest_by : (c : ℕ) → house c ≡ false → on b u c ≤ remainder (s.rows c).participant_debt (withheld s c)
+  rest_by : (c : ℕ) → house c ≡ false → on b u c ≤ remainder (s.rows c).declared.participant_debt (withheld s c)
   rest_by c h = go (cases_eq c b)
     where
-      go : (c ≡ b) ⊎ (c ≡ b → ⊥) → on b u c ≤ remainder (s.rows c).participant_debt (withheld s c)
+      go : (c ≡ b) ⊎ (c ≡ b → ⊥) → on b u c ≤ remainder (s.rows c).declared.participant_debt (withheld s c)
       go (inl q) =
           let w : u ≤ rest s c = rw q right_1.0 in
           let e = rest_customer s c h in
@@ -211,11 +211,11 @@ module _ (s : State) (side a k x b n : ℕ) (z : eqb side 0 ≡ false) (sd : Sou
   different c false h g e = both_ways (house c) (ap house e ∙ h) g
 
   -- what leaves pocket 1 was excess
-  excess_by : (c : ℕ) → house c ≡ false → k ≡ 1 → lesser (replacement s c) (s.rows c).customer_margin ≤ replacement (seized s side a k x b n) c
+  excess_by : (c : ℕ) → house c ≡ false → k ≡ 1 → lesser (replacement s c) (s.rows c).declared.customer_margin ≤ replacement (seized s side a k x b n) c
   unfolding excess
   excess_by c h e = go (cases_eq c a)
     where
-      go : (c ≡ a) ⊎ (c ≡ a → ⊥) → lesser (replacement s c) (s.rows c).customer_margin ≤ replacement (seized s side a k x b n) c
+      go : (c ≡ a) ⊎ (c ≡ a → ⊥) → lesser (replacement s c) (s.rows c).declared.customer_margin ≤ replacement (seized s side a k x b n) c
       go (inl q) =
           let w = right_1.1 e in
           let p = rw (upon a a refl) at (pays a 1 (omega arith) e) in

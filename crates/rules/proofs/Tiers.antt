@@ -30,23 +30,23 @@ module _ (x x' y y' v : ℕ) where
 pub record Inputs (s s' : State) (c dv rv mv bv uv : ℕ) : Type 0 where
   pub direct_in : direct s' c + dv ≡ direct s c
   pub replaced_in : replacement s' c + rv ≡ replacement s c
-  pub margin_in : (s'.rows c).customer_margin + mv ≡ (s.rows c).customer_margin
-  pub debt_in : (s'.rows c).customer_debt + bv ≡ (s.rows c).customer_debt
-  pub due_in : (s'.rows c).participant_debt + uv ≡ (s.rows c).participant_debt
+  pub margin_in : (s'.rows c).declared.customer_margin + mv ≡ (s.rows c).declared.customer_margin
+  pub debt_in : (s'.rows c).declared.customer_debt + bv ≡ (s.rows c).declared.customer_debt
+  pub due_in : (s'.rows c).declared.participant_debt + uv ≡ (s.rows c).declared.participant_debt
 
 module _ (s s' : State) (c : ℕ) where
-  own_by : (dv l e o : ℕ) → dv + l ≡ o → direct s' c + dv ≡ direct s c → Tier (replacement s c) (replacement s' c) (s.rows c).customer_margin (s'.rows c).customer_margin l e → own_pool s' c + o ≡ own_pool s c
+  own_by : (dv l e o : ℕ) → dv + l ≡ o → direct s' c + dv ≡ direct s c → Tier (replacement s c) (replacement s' c) (s.rows c).declared.customer_margin (s'.rows c).declared.customer_margin l e → own_pool s' c + o ≡ own_pool s c
   unfolding own_pool
   own_by dv l e o q d t = let z = t.0 in omega arith
 
   at_customer : house c ≡ false → (e cl re k : ℕ) →
       excess s' c + e ≡ excess s c → claim s' c + cl ≡ claim s c →
-      remainder (s'.rows c).participant_debt (withheld s' c) + re ≡ remainder (s.rows c).participant_debt (withheld s c) →
+      remainder (s'.rows c).declared.participant_debt (withheld s' c) + re ≡ remainder (s.rows c).declared.participant_debt (withheld s c) →
       kept s' c + k ≡ kept s c → passed_on s' c + 0 ≡ passed_on s c → At s s' c cl e re k
   unfolding rest pooled from_customer
   at_customer h e cl re k he hc hr hk hp = record { claim_at = rw h hc; pooled_at = rw h he; rest_at = rw h hr; kept_at = rw h hk; passed_at = rw h (sym (add-zero (passed_on s' c)) ∙ hp) }
 
-  pub at_house : house c ≡ true → (v u : ℕ) → direct s' c + v ≡ direct s c → (s'.rows c).participant_debt + u ≡ (s.rows c).participant_debt → At s s' c 0 v u 0
+  pub at_house : house c ≡ true → (v u : ℕ) → direct s' c + v ≡ direct s c → (s'.rows c).declared.participant_debt + u ≡ (s.rows c).declared.participant_debt → At s s' c 0 v u 0
   unfolding rest pooled from_customer
   at_house h v u d i = record { claim_at = rw h refl; pooled_at = rw h d; rest_at = rw h i; kept_at = rw h refl; passed_at = rw h refl }
 
@@ -62,7 +62,7 @@ module _ (s s' : State) (c : ℕ) where
         at_customer h 0 v 0 0 t1.1 t2.1 t4.1 t3.0 t3.1
 
     -- e leaves pocket 1, all of it excess, and the participant's debt falls by u, all of it rest
-    pub at_pays : (e u : ℕ) → Inputs s s' c 0 e 0 0 u → lesser (replacement s c) (s.rows c).customer_margin ≤ replacement s' c → u ≤ remainder (s.rows c).participant_debt (withheld s c) → At s s' c 0 e u 0
+    pub at_pays : (e u : ℕ) → Inputs s s' c 0 e 0 0 u → lesser (replacement s c) (s.rows c).declared.customer_margin ≤ replacement s' c → u ≤ remainder (s.rows c).declared.participant_debt (withheld s c) → At s s' c 0 e u 0
     unfolding excess claim kept passed_on withheld
     at_pays e u i g g' =
         let t1 = tier_over _ _ _ _ e i.replaced_in i.margin_in g in
@@ -81,7 +81,7 @@ module _ (s s' : State) (c : ℕ) where
         at_customer h 0 0 0 v t1.1 t2.1 (omega arith) t3.0 t3.1
 
     -- v leaves pocket 1 and the customer margin, and pays for both debts
-    pub at_seized_1 : (v : ℕ) → Inputs s s' c 0 v v v v → v ≤ kept s c → v ≤ lesser (replacement s c) (s.rows c).customer_margin → At s s' c 0 0 0 v
+    pub at_seized_1 : (v : ℕ) → Inputs s s' c 0 v v v v → v ≤ kept s c → v ≤ lesser (replacement s c) (s.rows c).declared.customer_margin → At s s' c 0 0 0 v
     unfolding excess claim kept passed_on withheld
     at_seized_1 v i g g' =
         let t1 = tier_under _ _ _ _ v i.replaced_in i.margin_in g' in

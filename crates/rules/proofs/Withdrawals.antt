@@ -118,7 +118,7 @@ module _ (T : Terms) (s : State) (a k x n : ℕ) (sd : Sound s) (al : Allowed T 
   unfolding withdrawal_barred
   by_replacement h e =
       let d : customer_draws a k ≡ false = rw (h, e) refl in
-      let g = or_parts (eqb k 1 && ltb (replacement (taken s a k x n) a) (lesser (replacement s a) (s.rows a).customer_margin)) _ (rw d at al.enough) in
+      let g = or_parts (eqb k 1 && ltb (replacement (taken s a k x n) a) (lesser (replacement s a) (s.rows a).declared.customer_margin)) _ (rw d at al.enough) in
       let g' = rw (eq-eqb k 1 e) at g.0 in
       by_participant d (at_pays s (taken s a k x n) a h _ 0 (inputs_1 s a k x n hk al.asset_ok e) (ltb-false _ _ g') (omega arith))
 

@@ -56,7 +56,7 @@ module _ (s : State) where
   -- Any account. A house account has no customer: nothing is withheld from one, so its whole debt is the rest, and
   -- its whole pocket belongs to the participant's pool.
   unfoldable pub rest : ℕ → ℕ
-  rest account = cond (house account) (s.rows account).participant_debt (rest_of (withheld account) (s.rows account))
+  rest account = cond (house account) (s.rows account).declared.participant_debt (rest_of (withheld account) (s.rows account))
 
   unfoldable pub pooled : ℕ → ℕ
   pooled account = cond (house account) (direct account) (excess account)

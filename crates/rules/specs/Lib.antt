@@ -1,4 +1,5 @@
 pub mod Sizes
+pub mod Pockets
 pub mod Refusals
 pub mod Wordings
 pub mod Values

@@ -1,6 +1,8 @@
 -- The nine orders that a book takes: when each is refused, and what an accepted one does.
-use Rattle.std.specs.Prelude.{ℕ, ◌+◌, ◌-◌, Bool, cond, not, ◌&&◌, ◌||◌, List, [], ◌∷◌, Some, ◌==◌, nat_lt, slice_index, slice_set}
+use Rattle.std.specs.Prelude.{ℕ, ◌+◌, ◌-◌, Bool, cond, not, ◌&&◌, ◌||◌, List, [], ◌∷◌, Some, ◌==◌, nat_lt, slice_set}
+use Rattle.rules.specs.declared.row.Lots.{Lots}
 use Rattle.rules.specs.declared.row.Counts.{Counts}
+use Rattle.rules.specs.declared.row.Declared.{Declared}
 use Rattle.rules.specs.declared.row.AccountRow.{AccountRow}
 use Rattle.rules.specs.declared.standing.Standing.{Standing}
 use Rattle.rules.specs.declared.standing.Standing.TheVariants.{Suspended, Settled}
@@ -10,7 +12,7 @@ use Rattle.rules.specs.Sizes.{accounts, participants, pockets, assets, contracts
 use Rattle.rules.specs.Claims.{lesser}
 use Rattle.rules.specs.Refusals.{Outcome, outcome_number, decided}
 use Rattle.rules.specs.Standings.{is_active, is_suspended, is_settled}
-use Rattle.rules.specs.States.{State, Terms, some?, known, participant_of}
+use Rattle.rules.specs.States.{State, Terms, lots, lots_of, amounts, some?, known, participant_of}
 use Rattle.rules.specs.Figures.{worth, over, replacement, own_pool, excess, kept, rest, pool, charge, kept_from_pool, covering_value, maintenance_amount}
 
 -- An order may name any number at all; one that names too large a number is refused.
@@ -53,31 +55,21 @@ abbrev pub leaving : (before after : State) (account pocket asset : ℕ) → ℕ
 leaving before after account pocket asset = worth before.price before.held account pocket asset - worth after.price after.held account pocket asset
 
 -- rows with other counts of one contract, with other amounts, and with what a seizure of a value pays taken off
-abbrev pub positioned_row : AccountRow → (contract long short : ℕ) → AccountRow
-positioned_row row contract long short = record {
-  counts = record { long = slice_set row.counts.long contract long; short = slice_set row.counts.short contract short };
-  customer_margin = row.customer_margin;
-  customer_debt = row.customer_debt;
-  participant_debt = row.participant_debt;
-}
+abbrev pub positioned_row : AccountRow → (contract : ℕ) → Lots → AccountRow
+positioned_row row contract new = record { counts = record { each = slice_set row.counts.each contract new }; declared = row.declared }
 
-abbrev pub declared_row : AccountRow → (customer_margin customer_debt participant_debt : ℕ) → AccountRow
-declared_row row customer_margin customer_debt participant_debt = record {
-  counts = row.counts;
-  customer_margin = customer_margin;
-  customer_debt = customer_debt;
-  participant_debt = participant_debt;
-}
+abbrev pub declared_row : AccountRow → Declared → AccountRow
+declared_row row new = record { counts = row.counts; declared = new }
 
 -- Side 0: the row of the account that pays, which is the one paid for. Both debts fall, and out of the replacement
 -- pocket the customer margin with them, since what stood in for it is gone. Side 1: only the participant's debt falls.
 abbrev pub paid_row : (side pocket value : ℕ) → AccountRow → AccountRow
-paid_row side pocket value row = record {
-  counts = row.counts;
-  customer_margin = cond (side == 0 && pocket == 1) (row.customer_margin - value) row.customer_margin;
-  customer_debt = cond (side == 0) (row.customer_debt - value) row.customer_debt;
-  participant_debt = row.participant_debt - value;
-}
+paid_row side pocket value row =
+    let old = row.declared in
+    record {
+      counts = row.counts;
+      declared = amounts (cond (side == 0 && pocket == 1) (old.customer_margin - value) old.customer_margin) (cond (side == 0) (old.customer_debt - value) old.customer_debt) (old.participant_debt - value);
+    }
 
 -- TESTS
 
@@ -90,18 +82,18 @@ abbrev pub units_out_of_range : ℕ → Bool
 units_out_of_range units = units == 0 || nat_lt most_units units
 
 -- amounts that a row may hold; a house account has no customer, so it has no customer margin and no customer's debt
-abbrev pub amounts_out_of_range : (account customer_margin customer_debt participant_debt : ℕ) → Bool
-amounts_out_of_range account customer_margin customer_debt participant_debt =
-    nat_lt most_amount customer_margin || nat_lt most_amount customer_debt || nat_lt most_amount participant_debt
-    || (house account && (not (customer_margin == 0) || not (customer_debt == 0)))
+abbrev pub amounts_out_of_range : (account : ℕ) → Declared → Bool
+amounts_out_of_range account new =
+    nat_lt most_amount new.customer_margin || nat_lt most_amount new.customer_debt || nat_lt most_amount new.participant_debt
+    || (house account && (not (new.customer_margin == 0) || not (new.customer_debt == 0)))
 
 -- a contract that there is not, or a count above its limit
-abbrev pub counts_out_of_range : (contract long short : ℕ) → Bool
-counts_out_of_range contract long short = not (nat_lt contract contracts) || nat_lt most_count long || nat_lt most_count short
+abbrev pub counts_out_of_range : (contract : ℕ) → Lots → Bool
+counts_out_of_range contract new = not (nat_lt contract contracts) || nat_lt most_count new.long || nat_lt most_count new.short
 
 -- Counts may not change once the participant is settled; while it is suspended neither may rise.
-abbrev pub counts_barred : Standing → (old_long old_short long short : ℕ) → Bool
-counts_barred standing old_long old_short long short = is_settled standing || (is_suspended standing && (nat_lt old_long long || nat_lt old_short short))
+abbrev pub counts_barred : Standing → (old new : Lots) → Bool
+counts_barred standing old new = is_settled standing || (is_suspended standing && (nat_lt old.long new.long || nat_lt old.short new.short))
 
 -- the party that withdraws is the customer for the direct pocket of a customer account, and else the participant
 abbrev pub customer_draws : (account pocket : ℕ) → Bool
@@ -113,8 +105,8 @@ customer_draws account pocket = not (house account) && pocket == 0
 unfoldable pub withdrawal_barred : (before after : State) (account pocket : ℕ) → Bool
 withdrawal_barred before after account pocket =
     let participant = participant_of before account in
-    cond (customer_draws account pocket) (nat_lt (own_pool after account) (lesser (own_pool before account) (before.rows account).customer_debt))
-    ((pocket == 1 && nat_lt (replacement after account) (lesser (replacement before account) (before.rows account).customer_margin))
+    cond (customer_draws account pocket) (nat_lt (own_pool after account) (lesser (own_pool before account) (before.rows account).declared.customer_debt))
+    ((pocket == 1 && nat_lt (replacement after account) (lesser (replacement before account) (before.rows account).declared.customer_margin))
     || nat_lt (pool after participant) (lesser (pool before participant) (charge before participant)))
 
 -- Who may pay for whom. Side 0: a customer account for itself. Side 1: a house pocket or a replacement pocket for any
@@ -129,12 +121,12 @@ unfoldable pub seizure_barred : State → (side paying pocket paid value : ℕ) 
 seizure_barred s side paying pocket paid value =
     (value == 0) ||
     cond (side == 0)
-    (nat_lt (kept s paying) value || (pocket == 1 && nat_lt (lesser (replacement s paying) (s.rows paying).customer_margin) value))
+    (nat_lt (kept s paying) value || (pocket == 1 && nat_lt (lesser (replacement s paying) (s.rows paying).declared.customer_margin) value))
     (nat_lt (kept_from_pool s (participant_of s paying)) value || nat_lt (rest s paid) value || (pocket == 1 && nat_lt (excess s paying) value))
 
 -- all lots of an account, and of a participant's accounts, its house account among them
 unfoldable pub row_lots : Counts → ℕ
-row_lots counts = sum contracts (λ k. slice_index counts.long k + slice_index counts.short k)
+row_lots counts = sum contracts (λ k. (lots_of counts k).long + (lots_of counts k).short)
 
 unfoldable pub open_lots : State → ℕ → ℕ
 open_lots s participant = over s.opened participant (λ account. row_lots (s.rows account).counts)
@@ -151,13 +143,12 @@ tests T s (mark asset price haircut) =
     (WrongAsset, (asset == 0) || not (nat_lt asset assets)) ∷
     (OutOfRange, nat_lt most_price price || nat_lt most_haircut haircut) ∷ []
 tests T s (position account contract long short) =
-    let counts = (s.rows account).counts in
     (WrongAccount, not (known s account)) ∷
-    (OutOfRange, counts_out_of_range contract long short) ∷
-    (WrongStanding, counts_barred (s.standing (participant_of s account)) (slice_index counts.long contract) (slice_index counts.short contract) long short) ∷ []
+    (OutOfRange, counts_out_of_range contract (lots long short)) ∷
+    (WrongStanding, counts_barred (s.standing (participant_of s account)) (lots_of (s.rows account).counts contract) (lots long short)) ∷ []
 tests T s (declare account customer_margin customer_debt participant_debt) =
     (WrongAccount, not (known s account)) ∷
-    (OutOfRange, amounts_out_of_range account customer_margin customer_debt participant_debt) ∷ []
+    (OutOfRange, amounts_out_of_range account (amounts customer_margin customer_debt participant_debt)) ∷ []
 tests T s (deposit account pocket asset units) =
     (WrongAccount, not (known s account)) ∷
     (WrongPocket, no_such_pocket account pocket) ∷
@@ -194,9 +185,9 @@ tests T s (seize side paying pocket asset paid units) =
 abbrev pub effect : State → Order → State
 effect s (opening account participant) = record { rows = s.rows; opened = put s.opened account (Some participant); standing = s.standing; price = s.price; haircut = s.haircut; held = s.held }
 effect s (mark asset price haircut) = record { rows = s.rows; opened = s.opened; standing = s.standing; price = put s.price asset price; haircut = put s.haircut asset haircut; held = s.held }
-effect s (position account contract long short) = with_row s account (positioned_row (s.rows account) contract long short)
+effect s (position account contract long short) = with_row s account (positioned_row (s.rows account) contract (lots long short))
 effect s (declare account customer_margin customer_debt participant_debt) =
-    with_row s account (declared_row (s.rows account) customer_margin customer_debt participant_debt)
+    with_row s account (declared_row (s.rows account) (amounts customer_margin customer_debt participant_debt))
 effect s (deposit account pocket asset units) = with_held s (more s.held (box account pocket asset) units)
 effect s (withdraw account pocket asset units) = taken s account pocket asset units
 effect s (suspend participant) = with_standing s participant Suspended

@@ -1,7 +1,9 @@
 -- The state of a book, what a book is made over, and what its making gives. A state is told by functions of a number
 -- (an account, an asset, a box), defined at every number, so that an order may name any.
-use Rattle.std.specs.Prelude.{◌≡◌, ℕ, ◌<◌, ◌≤◌, Bool, true, false, cond, ◌&&◌, replicate, Some, None, Option, ◌==◌, nat_lt, slice_index}
+use Rattle.std.specs.Prelude.{◌≡◌, ℕ, ◌<◌, ◌≤◌, Bool, true, false, cond, ◌&&◌, replicate, Some, None, Option, ◌==◌, nat_lt, slice_index_or}
+use Rattle.rules.specs.declared.row.Lots.{Lots}
 use Rattle.rules.specs.declared.row.Counts.{Counts}
+use Rattle.rules.specs.declared.row.Declared.{Declared}
 use Rattle.rules.specs.declared.row.AccountRow.{AccountRow}
 use Rattle.rules.specs.declared.standing.Standing.{Standing}
 use Rattle.rules.specs.declared.standing.Standing.TheVariants.{Active}
@@ -22,13 +24,21 @@ pub record Terms : Type 0 where
   pub house_amount : Counts → ℕ
   pub customer_amount : Counts → ℕ
 
+-- open lots of one contract, bought and sold
+abbrev pub lots : (long short : ℕ) → Lots
+lots long short = record { long = long; short = short }
+
+-- the open lots of a contract among the counts of an account; none of a contract that there is not
+abbrev pub lots_of : Counts → (contract : ℕ) → Lots
+lots_of counts contract = slice_index_or counts.each contract (lots 0 0)
+
 -- no open lot at all
 abbrev pub flat : Counts
-flat = record { long = replicate contracts 0; short = replicate contracts 0 }
+flat = record { each = replicate contracts (lots 0 0) }
 
 -- no count above its limit
 abbrev pub Countable : Counts → Type 0
-Countable counts = (k : ℕ) → k < contracts → (slice_index counts.long k ≤ most_count) × (slice_index counts.short k ≤ most_count)
+Countable counts = (k : ℕ) → k < contracts → ((lots_of counts k).long ≤ most_count) × ((lots_of counts k).short ≤ most_count)
 
 -- What a margin method shows: no lot asks for no margin, and no amount passes its limit. (That the same counts always
 -- get the same amount needs no law: an amount is a function of the counts.)
@@ -46,19 +56,27 @@ pub record Lawful (T : Terms) : Type 0 where
 -- What a row may hold: counts and amounts within their limits, and of a house account, which has no customer, no
 -- customer margin and no customer's debt.
 abbrev pub Affordable : AccountRow → Type 0
-Affordable row = (row.customer_margin ≤ most_amount) × (row.customer_debt ≤ most_amount) × (row.participant_debt ≤ most_amount)
+Affordable row = (row.declared.customer_margin ≤ most_amount) × (row.declared.customer_debt ≤ most_amount) × (row.declared.participant_debt ≤ most_amount)
 
 abbrev pub Customerless : AccountRow → Type 0
-Customerless row = (row.customer_margin ≡ 0) × (row.customer_debt ≡ 0)
+Customerless row = (row.declared.customer_margin ≡ 0) × (row.declared.customer_debt ≡ 0)
 
 pub record RowAllowed (account : ℕ) (row : AccountRow) : Type 0 where
   pub counts : Countable row.counts
   pub amounts : Affordable row
   pub house_row : account < participants → Customerless row
 
+-- what an account declares: the customer margin, what the customer owes, and what the participant owes
+abbrev pub amounts : (customer_margin customer_debt participant_debt : ℕ) → Declared
+amounts customer_margin customer_debt participant_debt = record {
+  customer_margin = customer_margin;
+  customer_debt = customer_debt;
+  participant_debt = participant_debt;
+}
+
 -- a row with nothing in it
 abbrev pub empty_row : AccountRow
-empty_row = record { counts = flat; customer_margin = 0; customer_debt = 0; participant_debt = 0 }
+empty_row = record { counts = flat; declared = amounts 0 0 0 }
 
 -- A book straight from its making: all boxes and rows empty, no customer account open, every participant active, yen
 -- at price 1 with no haircut, and every other asset at price 0 with all of its value cut.

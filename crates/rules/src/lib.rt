@@ -2,8 +2,10 @@
 // is the arithmetic of values, and the plain types that the meaning speaks of.
 #![tactic(auto)]
 
+pub mod accounts;
 pub mod boxes;
 pub mod law;
+pub mod pocket;
 pub mod refusal;
 pub mod row;
 pub mod sizes;

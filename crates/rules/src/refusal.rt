@@ -7,21 +7,21 @@ use std::fmt;
 /// Why a call or a file is refused.
 #[derive(Clone, Copy, PartialEq, Eq, Debug)]
 pub enum Refusal {
-    FileTooLong,
-    UnknownKind,
-    BodyCutShort,
-    AnswerListTooShort,
-    WrongAccount,
-    WrongParticipant,
-    WrongPocket,
-    WrongAsset,
-    OutOfRange,
-    WrongStanding,
-    OverLimit,
-    TooFewUnits,
-    BelowMaintenance,
-    BeyondEntitlement,
-    OpenPositions,
+    FileTooLong = 1,
+    UnknownKind = 2,
+    BodyCutShort = 3,
+    AnswerListTooShort = 4,
+    WrongAccount = 5,
+    WrongParticipant = 6,
+    WrongPocket = 7,
+    WrongAsset = 8,
+    OutOfRange = 9,
+    WrongStanding = 10,
+    OverLimit = 11,
+    TooFewUnits = 12,
+    BelowMaintenance = 13,
+    BeyondEntitlement = 14,
+    OpenPositions = 15,
 }
 
 impl Refusal {
@@ -29,23 +29,7 @@ impl Refusal {
     pub fn number(self) -> u8
         ensures { result ≡ number_of self }
     {
-        match self {
-            Refusal::FileTooLong => 1,
-            Refusal::UnknownKind => 2,
-            Refusal::BodyCutShort => 3,
-            Refusal::AnswerListTooShort => 4,
-            Refusal::WrongAccount => 5,
-            Refusal::WrongParticipant => 6,
-            Refusal::WrongPocket => 7,
-            Refusal::WrongAsset => 8,
-            Refusal::OutOfRange => 9,
-            Refusal::WrongStanding => 10,
-            Refusal::OverLimit => 11,
-            Refusal::TooFewUnits => 12,
-            Refusal::BelowMaintenance => 13,
-            Refusal::BeyondEntitlement => 14,
-            Refusal::OpenPositions => 15,
-        }
+        self as u8
     }
 
     /// The refusal in plain words, for the person who is told of it.

@@ -3,23 +3,35 @@ ghost use Rattle.rules.specs.States.{empty_row};
 
 use crate::sizes::CONTRACTS;
 
-/// The open lots of one account, contract by contract: bought (long) and sold (short).
-#[derive(Clone, Copy)]
-pub struct Counts {
-    pub long: [u32; CONTRACTS],
-    pub short: [u32; CONTRACTS],
+/// The open lots of one contract: bought (long) and sold (short).
+#[derive(Clone, Copy, PartialEq, Eq, Debug)]
+pub struct Lots {
+    pub long: u32,
+    pub short: u32,
 }
 
-/// What the book knows of one account beside its deposits. Both debts are not yet due.
+/// The open lots of one account, contract by contract.
+#[derive(Clone, Copy)]
+pub struct Counts {
+    pub each: [Lots; CONTRACTS],
+}
+
+/// What is declared of one account, in yen. Both debts are not yet due.
+#[derive(Clone, Copy, PartialEq, Eq, Debug)]
+pub struct Declared {
+    /// What the customer placed with its participant.
+    pub customer_margin: u64,
+    /// What the customer owes its participant.
+    pub customer_debt: u64,
+    /// What the participant owes the clearing house on this account.
+    pub participant_debt: u64,
+}
+
+/// What the book knows of one account beside its deposits.
 #[derive(Clone, Copy)]
 pub struct AccountRow {
     pub counts: Counts,
-    /// What the customer placed with its participant, in yen.
-    pub customer_margin: u64,
-    /// What the customer owes its participant, in yen.
-    pub customer_debt: u64,
-    /// What the participant owes the clearing house on this account, in yen.
-    pub participant_debt: u64,
+    pub declared: Declared,
 }
 
 impl AccountRow {
@@ -29,12 +41,13 @@ impl AccountRow {
     {
         AccountRow {
             counts: Counts {
-                long: [0; CONTRACTS],
-                short: [0; CONTRACTS],
+                each: [Lots { long: 0, short: 0 }; CONTRACTS],
             },
-            customer_margin: 0,
-            customer_debt: 0,
-            participant_debt: 0,
+            declared: Declared {
+                customer_margin: 0,
+                customer_debt: 0,
+                participant_debt: 0,
+            },
         }
     }
 }
