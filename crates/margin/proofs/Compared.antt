@@ -4,6 +4,7 @@ use Rattle.std.proofs.lemmas.Int.{ints}
 use Rattle.std.proofs.lemmas.Bool.{cases_eq, cases_lt}
 use Rattle.rules.specs.declared.row.Counts.{Counts}
 use Rattle.rules.specs.Sizes.{contracts}
+use Rattle.rules.specs.States.{lots_of}
 use Rattle.rules.proofs.Sums.{sum_less}
 use Rattle.margin.specs.Rates.{asked_at, asked, set_off}
 use Rattle.margin.specs.Losses.{scenarios, loss, above_0, largest, worst_loss}
@@ -13,7 +14,7 @@ pub net_at_most_gross : NetAtMostGross
 unfolding asked
 net_at_most_gross rates counts =
     sum_less contracts (asked_at set_off rates counts) (asked_at ◌+◌ rates counts)
-    (λ k h. mul-le-mul_right (get_or rates k 0) (fewer (get_or counts.long k 0) (get_or counts.short k 0)))
+    (λ k h. mul-le-mul_right (get_or rates k 0) (fewer (lots_of counts k).long (lots_of counts k).short))
   where
     fewer : (long short : ℕ) → set_off long short ≤ long + short
     fewer long short = omega arith

@@ -1,11 +1,13 @@
 -- Worst-loss margin keeps the two laws of a margin method.
-use Rattle.std.specs.Prelude.{◌≡◌, ℕ, zero, suc, ◌+◌, ◌*◌, ◌<◌, ◌≤◌, List, [], replicate, ℤ, pos, negsuc, ◌+ℤ◌, ◌-ℤ◌, ◌*ℤ◌, neg_ℤ, slice_index, slice_index_or, unsigned_abs, refl}
+use Rattle.std.specs.Prelude.{◌≡◌, ℕ, zero, suc, ◌+◌, ◌*◌, ◌<◌, ◌≤◌, List, [], ℤ, pos, negsuc, ◌+ℤ◌, ◌-ℤ◌, ◌*ℤ◌, neg_ℤ, slice_index_or, unsigned_abs, refl}
 use Rattle.std.proofs.Common.{ap, mul-le-mul, suc-mul, arith}
 use Rattle.std.proofs.Math.IntN.{zero-*ℤ}
 use Rattle.std.proofs.lemmas.Int.{ints}
+use Rattle.rules.specs.declared.row.Lots.{Lots}
 use Rattle.rules.specs.declared.row.Counts.{Counts}
 use Rattle.rules.specs.Sizes.{contracts, most_count, most_amount}
-use Rattle.rules.specs.States.{Countable, LawfulMethod, flat}
+use Rattle.rules.specs.States.{Countable, LawfulMethod, lots, lots_of, flat}
+use Rattle.rules.proofs.Same.{none_flat}
 use Rattle.margin.specs.Losses.{scenarios, sumℤ, gain_at, loss, above_0, largest, worst_loss}
 
 pub abs_neg : (z : ℤ) → unsigned_abs (neg_ℤ z) ≡ unsigned_abs z
@@ -56,25 +58,20 @@ module _ (sheet : List (List ℤ)) (moderate : Moderate sheet) (s : ℕ) where
   gain_most counts few k h =
       let p = (few k h).0 in
       let q = (few k h).1 in
-      let d : unsigned_abs (pos (slice_index counts.long k) -ℤ pos (slice_index counts.short k)) ≤ most_count = omega (arith, ints) in
-      rw (abs_mul (pos (slice_index counts.long k) -ℤ pos (slice_index counts.short k)) (slice_index_or (slice_index_or sheet s []) k (pos 0))) (mul-le-mul d (moderate s k))
+      let d : unsigned_abs (pos (lots_of counts k).long -ℤ pos (lots_of counts k).short) ≤ most_count = omega (arith, ints) in
+      rw (abs_mul (pos (lots_of counts k).long -ℤ pos (lots_of counts k).short) (slice_index_or (slice_index_or sheet s []) k (pos 0))) (mul-le-mul d (moderate s k))
 
   loss_most : (counts : Counts) → Countable counts → above_0 (loss (slice_index_or sheet s []) counts) ≤ most_amount
   loss_most counts few =
       let z = sumℤ contracts (gain_at (slice_index_or sheet s []) counts) in
       omega (arith, above_0_most (neg_ℤ z), abs_neg z, sumℤ_most contracts most_gain (gain_at (slice_index_or sheet s []) counts) (gain_most counts few))
 
-none_at : (n k : ℕ) → ◌≡◌ {A = ℕ} (slice_index (replicate n 0) k) 0
-none_at zero k = refl
-none_at (suc n) zero = refl
-none_at (suc n) (suc k) = none_at n k
-
-gain_none : (long short : ℕ) (move : ℤ) → long ≡ 0 → short ≡ 0 → (pos long -ℤ pos short) *ℤ move ≡ pos 0
-gain_none long short move p q = rw (p, q) (zero-*ℤ move)
+gain_none : (these : Lots) (move : ℤ) → these ≡ lots 0 0 → (pos these.long -ℤ pos these.short) *ℤ move ≡ pos 0
+gain_none these move p = rw p (zero-*ℤ move)
 
 loss_flat : (moves : List ℤ) → above_0 (loss moves flat) ≡ 0
 loss_flat moves =
-    let none : (k : ℕ) → gain_at moves flat k ≡ pos 0 = λ k. gain_none _ _ (slice_index_or moves k (pos 0)) (none_at contracts k) (none_at contracts k) in
+    let none : (k : ℕ) → gain_at moves flat k ≡ pos 0 = λ k. gain_none _ (slice_index_or moves k (pos 0)) (none_flat k) in
     ap (λ (z : ℤ). above_0 (neg_ℤ z)) (sumℤ_none contracts (gain_at moves flat) none)
 
 pub worst_lawful : (sheet : List (List ℤ)) → Moderate sheet → LawfulMethod (worst_loss sheet)

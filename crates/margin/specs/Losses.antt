@@ -1,9 +1,10 @@
 -- Worst-loss margin: a sheet has scenarios, each a move of the price of every contract. What the counts would lose in
 -- the worst of them is asked.
-use Rattle.std.specs.Prelude.{ℕ, zero, suc, max, List, [], ℤ, pos, negsuc, ◌+ℤ◌, ◌-ℤ◌, ◌*ℤ◌, neg_ℤ, slice_index, slice_index_or}
+use Rattle.std.specs.Prelude.{ℕ, zero, suc, max, List, [], ℤ, pos, negsuc, ◌+ℤ◌, ◌-ℤ◌, ◌*ℤ◌, neg_ℤ, slice_index_or}
 use Rattle.std.specs.Int.{int_max, int_min}
 use Rattle.rules.specs.declared.row.Counts.{Counts}
 use Rattle.rules.specs.Sizes.{contracts}
+use Rattle.rules.specs.States.{lots_of}
 
 abbrev pub scenarios : ℕ
 scenarios = 16
@@ -19,7 +20,7 @@ sumℤ (suc n) f = sumℤ n f +ℤ f n
 
 -- what contract k gains when its price moves: long lots gain by a rise, short lots by a fall
 abbrev pub gain_at : (moves : List ℤ) → Counts → ℕ → ℤ
-gain_at moves counts k = (pos (slice_index counts.long k) -ℤ pos (slice_index counts.short k)) *ℤ slice_index_or moves k (pos 0)
+gain_at moves counts k = (pos (lots_of counts k).long -ℤ pos (lots_of counts k).short) *ℤ slice_index_or moves k (pos 0)
 
 -- what a scenario would cost, below 0 where it would gain
 abbrev pub loss : (moves : List ℤ) → Counts → ℤ

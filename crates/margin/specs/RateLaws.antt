@@ -1,16 +1,12 @@
 -- Margin by rates keeps the two laws of a margin method.
-use Rattle.std.specs.Prelude.{◌≡◌, ℕ, zero, suc, ◌+◌, ◌<◌, ◌≤◌, List, replicate, slice_index, slice_index_or, refl}
+use Rattle.std.specs.Prelude.{◌≡◌, ℕ, ◌+◌, ◌<◌, ◌≤◌, List, slice_index, refl}
 use Rattle.std.proofs.Common.{mul-le-mul, zero-mul, arith}
 use Rattle.rules.specs.declared.row.Counts.{Counts}
 use Rattle.rules.specs.Sizes.{contracts}
-use Rattle.rules.specs.States.{Countable, LawfulMethod, flat}
+use Rattle.rules.specs.States.{Countable, LawfulMethod, lots_of, flat}
+use Rattle.rules.proofs.Same.{none_flat}
 use Rattle.rules.proofs.Sums.{sum_zero, sum_most}
-use Rattle.margin.specs.Rates.{Fair, asked_at, asked, set_off}
-
--- what every way to count lots keeps to: none of none, and no more than all
-pub record Counting (lots : ℕ → ℕ → ℕ) : Type 0 where
-  pub none : lots 0 0 ≡ 0
-  pub few : (long short : ℕ) → lots long short ≤ long + short
+use Rattle.margin.specs.Rates.{Fair, Counting, asked_at, asked, set_off}
 
 pub setting_off : Counting set_off
 setting_off = record { none = refl; few = λ long short. omega arith }
@@ -25,18 +21,13 @@ most_asked = 20000000000000
 module _ (lots : ℕ → ℕ → ℕ) (way : Counting lots) (rates : List ℕ) where
   pub asked_at_most : Fair rates → (counts : Counts) → Countable counts → (k : ℕ) → k < contracts → asked_at lots rates counts k ≤ most_asked
   asked_at_most fair counts few k h =
-      let long = slice_index_or counts.long k 0 in
-      let short = slice_index_or counts.short k 0 in
+      let long = (lots_of counts k).long in
+      let short = (lots_of counts k).short in
       let a : lots long short ≤ 2000000 = omega (arith, (few k h).0, (few k h).1, way.few long short) in
       mul-le-mul a (fair k)
 
-  none_at : (n k : ℕ) → ◌≡◌ {A = ℕ} (slice_index (replicate n 0) k) 0
-  none_at zero k = refl
-  none_at (suc n) zero = refl
-  none_at (suc n) (suc k) = none_at n k
-
   flat_at : (k : ℕ) → k < contracts → asked_at lots rates flat k ≡ 0
-  flat_at k h = rw (none_at contracts k, way.none, zero-mul (slice_index rates k))
+  flat_at k h = rw (none_flat k, way.none, zero-mul (slice_index rates k))
 
   pub asked_lawful : Fair rates → LawfulMethod (asked lots rates)
   unfolding asked

@@ -1,8 +1,9 @@
 -- Margin by rates: a sheet has yen of margin for a lot, contract by contract. A method counts the lots of a contract in
 -- its own way, and asks the rate for each.
-use Rattle.std.specs.Prelude.{ℕ, ◌+◌, ◌-◌, ◌*◌, ◌≤◌, min, List, map, slice_index}
+use Rattle.std.specs.Prelude.{◌≡◌, ℕ, ◌+◌, ◌-◌, ◌*◌, ◌≤◌, min, List, map, slice_index}
 use Rattle.rules.specs.declared.row.Counts.{Counts}
 use Rattle.rules.specs.Sizes.{contracts, sum}
+use Rattle.rules.specs.States.{lots_of}
 
 -- the highest rate
 abbrev pub most_rate : ℕ
@@ -16,9 +17,14 @@ Fair rates = (k : ℕ) → slice_index rates k ≤ most_rate
 abbrev pub clamped : List ℕ → List ℕ
 clamped sheet = map (min most_rate) sheet
 
+-- What every way to count the lots of a contract keeps to: none of none, and no more than all.
+pub record Counting (lots : ℕ → ℕ → ℕ) : Type 0 where
+  pub none : lots 0 0 ≡ 0
+  pub few : (long short : ℕ) → lots long short ≤ long + short
+
 -- what contract k asks, and all contracts together, by a way to count lots
 abbrev pub asked_at : (lots : ℕ → ℕ → ℕ) (rates : List ℕ) → Counts → ℕ → ℕ
-asked_at lots rates counts k = lots (slice_index counts.long k) (slice_index counts.short k) * slice_index rates k
+asked_at lots rates counts k = lots (lots_of counts k).long (lots_of counts k).short * slice_index rates k
 
 unfoldable pub asked : (lots : ℕ → ℕ → ℕ) (rates : List ℕ) → Counts → ℕ
 asked lots rates counts = sum contracts (asked_at lots rates counts)

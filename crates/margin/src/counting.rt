@@ -1,28 +1,24 @@
-ghost use Rattle.std.specs.Prelude.{◌≡◌, ◌&&◌, nat_le};
-ghost use Rattle.rules.specs.Sizes.{contracts, most_count};
-ghost use Rattle.margin.specs.Counted.{countable_below, bounded_answer, as_counts};
+ghost use Rattle.std.specs.Prelude.{◌≡◌};
+ghost use Rattle.std.specs.List.{list_all};
+ghost use Rattle.margin.specs.Counted.{countable, bounded_answer, as_counts};
 
 use crate::counts::BoundedCounts;
 use rules::refusal::Refusal;
-use rules::row::Counts;
+use rules::row::{Counts, Lots};
 use rules::sizes::MOST_COUNT;
 
 /// Whether neither count of a contract is above the limit.
-fn in_range(long: u32, short: u32) -> bool
-    ensures { result ≡ (nat_le long most_count && nat_le short most_count) }
+fn in_range(lots: &Lots) -> bool
+    ensures { result ≡ countable lots.now }
 {
-    long <= MOST_COUNT && short <= MOST_COUNT
+    lots.long <= MOST_COUNT && lots.short <= MOST_COUNT
 }
 
 /// Whether no count of any contract is above the limit.
-fn countable(counts: &Counts) -> bool
-    ensures { result ≡ countable_below counts.now contracts }
+fn all_in_range(counts: &Counts) -> bool
+    ensures { result ≡ list_all countable counts.now.each }
 {
-    let mut all = true;
-    for (contract, long) in counts.long.iter().enumerate() {
-        all = all & in_range(*long, counts.short[contract]);
-    }
-    all
+    counts.each.iter().all(in_range)
 }
 
 impl BoundedCounts {
@@ -30,7 +26,7 @@ impl BoundedCounts {
     pub fn new(counts: Counts) -> Result<BoundedCounts, Refusal>
         ensures { as_counts result ≡ bounded_answer counts }
     {
-        if countable(&counts) {
+        if all_in_range(&counts) {
             Ok(BoundedCounts { counts })
         } else {
             Err(Refusal::OutOfRange)

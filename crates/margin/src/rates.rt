@@ -18,10 +18,8 @@ impl Rates {
     pub(crate) fn new(sheet: [u32; CONTRACTS]) -> Rates
         ensures { result.each ≡ clamped sheet }
     {
-        let mut each = sheet;
-        for rate in &mut each {
-            *rate = MOST_RATE.min(*rate);
+        Rates {
+            each: sheet.map(|rate| MOST_RATE.min(rate)),
         }
-        Rates { each }
     }
 }

@@ -6,18 +6,24 @@ ghost use Rattle.margin.specs.LossLaws.{most_gain, worst_lawful};
 use crate::counts::BoundedCounts;
 use crate::method::MarginMethod;
 use crate::scenarios::{SCENARIOS, WorstLossMargin};
+use rules::row::Lots;
 use rules::sizes::CONTRACTS;
 
 /// The farthest move on either side, in yen for a lot.
 const FARTHEST: i32 = 10_000_000;
 
-/// Takes each move beyond the farthest as the farthest on its side.
-fn clamp_all(moves: &mut [i32; CONTRACTS])
-    ensures { moves.new ≡ map nearest moves.old }
+/// A move that is beyond the farthest is taken as the farthest on its side.
+fn nearest(shift: i32) -> i32
+    ensures { result ≡ nearest shift }
 {
-    for shift in moves {
-        *shift = (*shift).clamp(-FARTHEST, FARTHEST);
-    }
+    shift.clamp(-FARTHEST, FARTHEST)
+}
+
+/// The moves of one scenario, none beyond the farthest.
+fn clamped(moves: [i32; CONTRACTS]) -> [i32; CONTRACTS]
+    ensures { result ≡ map nearest moves }
+{
+    moves.map(nearest)
 }
 
 impl WorstLossMargin {
@@ -25,22 +31,21 @@ impl WorstLossMargin {
     pub fn new(sheet: [[i32; CONTRACTS]; SCENARIOS]) -> WorstLossMargin
         ensures { result.moves ≡ map (map nearest) sheet }
     {
-        let mut moves = sheet;
-        for row in &mut moves {
-            clamp_all(row);
+        WorstLossMargin {
+            moves: sheet.map(clamped),
         }
-        WorstLossMargin { moves }
     }
 }
 
 /// What one contract gains when its price moves.
-fn gain(long: u32, short: u32, shift: i32) -> i64
-    requires few { (long ≤ most_count) × (short ≤ most_count) }
+fn gain(lots: Lots, shift: i32) -> i64
+    requires long { lots.long ≤ most_count }
+    requires short { lots.short ≤ most_count }
     requires near { unsigned_abs shift ≤ 10000000 }
-    ensures value { result ≡ (pos long -ℤ pos short) *ℤ shift }
+    ensures value { result ≡ (pos lots.long -ℤ pos lots.short) *ℤ shift }
     ensures small { unsigned_abs result ≤ most_gain }
 {
-    let net = i64::from(long) - i64::from(short);
+    let net = i64::from(lots.long) - i64::from(lots.short);
     net * i64::from(shift)
 }
 
@@ -50,8 +55,8 @@ fn loss(moves: &[i32; CONTRACTS], counts: &BoundedCounts) -> u64
     ensures { result ≡ above_0 (loss_of moves.now counts.now.counts) }
 {
     let mut sum = 0;
-    for (contract, long) in counts.counts.long.iter().enumerate() {
-        sum += gain(*long, counts.counts.short[contract], moves[contract]);
+    for (contract, lots) in counts.counts.each.iter().enumerate() {
+        sum += gain(*lots, moves[contract]);
     }
     (-sum).max(0).unsigned_abs()
 }

@@ -12,16 +12,16 @@ made c =
     *ℤ to_z w64 (of_z w64 c.from-3.result)
 
 abbrev meant : (c : goal.After-from-3) → ℤ
-meant c = (pos c.args.long -ℤ pos c.args.short) *ℤ c.args.shift
+meant c = (pos c.args.lots.long -ℤ pos c.args.lots.short) *ℤ c.args.shift
 
 same : (c : goal.After-from-3) → made c ≡ meant c
 same c =
-    let d : to_z w64 (of_z w64 (to_z w64 (of_z w64 c.from.result) -ℤ to_z w64 (of_z w64 c.from-2.result))) ≡ pos c.args.long -ℤ pos c.args.short = omega (arith, ints) in
+    let d : to_z w64 (of_z w64 (to_z w64 (of_z w64 c.from.result) -ℤ to_z w64 (of_z w64 c.from-2.result))) ≡ pos c.args.lots.long -ℤ pos c.args.lots.short = omega (arith, ints) in
     let m : to_z w64 (of_z w64 c.from-3.result) ≡ c.args.shift = omega (arith, ints) in
-    ap (λ (z : ℤ). z *ℤ to_z w64 (of_z w64 c.from-3.result)) d ∙ ap (λ (z : ℤ). (pos c.args.long -ℤ pos c.args.short) *ℤ z) m
+    ap (λ (z : ℤ). z *ℤ to_z w64 (of_z w64 c.from-3.result)) d ∙ ap (λ (z : ℤ). (pos c.args.lots.long -ℤ pos c.args.lots.short) *ℤ z) m
 
 small : (c : goal.After-from-3) → nat_abs (meant c) ≤ most_gain
-small c = abs_gain (pos c.args.long -ℤ pos c.args.short) c.args.shift (abs_apart c.args.long c.args.short most_count c.requires.few.0 c.requires.few.1) c.requires.near
+small c = abs_gain (pos c.args.lots.long -ℤ pos c.args.lots.short) c.args.shift (abs_apart c.args.lots.long c.args.lots.short most_count c.requires.long c.requires.short) c.requires.near
 
 pub overflow_mul-result : goal.overflow_mul-result
 overflow_mul-result c = subst (SFits w64) (sym (same c)) (fits64 (meant c) most_gain (small c) (omega arith))

@@ -10,7 +10,7 @@ pub gain-sum-requires : goal.gain-sum-requires
 gain-sum-requires c =
     let few = c.args.counts.now.countable c.loop-contract.contract c.loop-contract-test.true in
     let m : SFits w32 (get_or c.args.moves.now c.loop-contract.contract (pos 0)) = search rules in
-    record { few = (few.0, few.1); near = rw (to_z-of_z m) (c.requires c.loop-contract.contract) }
+    record { long = few.0; short = few.1; near = rw (to_z-of_z m) (c.requires c.loop-contract.contract) }
 
 pub overflow_add-sum : goal.overflow_add-sum
 overflow_add-sum c = omega (arith, ints)

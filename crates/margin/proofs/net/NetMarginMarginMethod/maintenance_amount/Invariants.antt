@@ -1,8 +1,0 @@
-use Rattle.std.proofs.Common.{◌≡◌, ◌*◌, ◌≤◌}
-use Rattle.rules.specs.Sizes.{sum}
-use Rattle.margin.specs.Rates.{set_off, asked_at}
-use Rattle.margin.specs.RateLaws.{most_asked}
-use Rattle.margin.proofs.net.NetMarginMarginMethod.maintenance_amount.Given as goal
-
-abbrev pub invariant-loop-contract : goal.invariant-loop-contract
-invariant-loop-contract l = (l.sum ≡ sum l.contract (asked_at set_off l.self.rates.each l.counts.counts)) × (l.sum ≤ l.contract * most_asked)
