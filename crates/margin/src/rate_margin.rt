@@ -42,6 +42,7 @@ impl<Way: LotCounting> MarginMethod for RateMargin<Way> {
 
     ghost laws = { λ method. asked_lawful Way.counted Way.laws method.rates.each method.rates.fair };
 
+    #[tactic(auto, using(rules::proofs::Sums::sum_none), unfolding(crate::specs::Rates::asked))]
     fn maintenance_amount(&self, counts: &BoundedCounts) -> u64 {
         let mut sum = 0;
         for (contract, lots) in counts.counts.each.iter().enumerate() {

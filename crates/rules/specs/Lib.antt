@@ -1,5 +1,6 @@
 pub mod Sizes
 pub mod Pockets
+pub mod Assets
 pub mod Refusals
 pub mod Wordings
 pub mod Values

@@ -3,6 +3,7 @@
 #![tactic(auto)]
 
 pub mod accounts;
+pub mod asset;
 pub mod boxes;
 pub mod law;
 pub mod pocket;

@@ -1,39 +1,29 @@
 ghost use Rattle.std.specs.Prelude.{◌≡◌, ℕ};
-ghost use Rattle.rules.specs.Values.{market_answer, applied_answer, scale as scale_of};
+ghost use Rattle.rules.specs.Values.{market_answer, applied_answer};
 
+use crate::asset::Asset;
 use crate::refusal::Refusal;
-use crate::sizes::{ASSETS, MOST_AMOUNT, MOST_HAIRCUT, MOST_PRICE, MOST_UNITS};
-
-/// How many of an asset's priced units make one yen of product.
-fn scale(asset: u8) -> u64
-    ensures { result ≡ scale_of asset }
-{
-    match asset {
-        0 => 1,
-        3 => 10,
-        _ => 10_000,
-    }
-}
+use crate::sizes::{MOST_AMOUNT, MOST_HAIRCUT, MOST_PRICE, MOST_UNITS};
 
 /// The market value of some units of an asset at a price, in yen, rounded down.
 ///
 /// Refuses an asset that there is none of with `WrongAsset`, and then a price or units above their limits with
 /// `OutOfRange`.
+#[tactic(auto, unfolding(crate::specs::Values::market))]
 pub fn market_value(asset: u8, price: u32, units: u64) -> Result<u64, Refusal>
     ensures { result ≡ market_answer asset price units }
 {
-    if asset >= ASSETS {
-        return Err(Refusal::WrongAsset);
-    }
+    let asset = Asset::try_from(asset)?;
     if price > MOST_PRICE || units > MOST_UNITS {
         return Err(Refusal::OutOfRange);
     }
-    Ok(units * u64::from(price) / scale(asset))
+    Ok(units * u64::from(price) / asset.scale())
 }
 
 /// What is left of a market value under a haircut in thousandths, in yen, rounded down.
 ///
 /// Refuses a value or a haircut above its limit with `OutOfRange`.
+#[tactic(auto, unfolding(crate::specs::Values::applied))]
 pub fn applied_value(market_value: u64, haircut: u16) -> Result<u64, Refusal>
     ensures { result ≡ applied_answer market_value haircut }
 {
