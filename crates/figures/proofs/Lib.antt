@@ -1,2 +1,3 @@
 pub mod Worths
-pub mod Shared
+pub mod Bounded
+pub mod Turns

@@ -1,9 +1,9 @@
 -- The four sums over its accounts from which a participant's figures follow.
-use Rattle.std.specs.Prelude.{ℕ, cond}
+use Rattle.std.specs.Prelude.{ℕ, ◌+◌}
 use Rattle.rules.specs.declared.row.AccountRow.{AccountRow}
 use Rattle.rules.specs.Claims.{own_pool_of, excess_of, withheld_of, claim_of, kept_of, passed_on_of, rest_of}
 use Rattle.rules.specs.Figures.{over, from_customer, claim, withheld, excess, pooled, rest, kept, passed_on, pool, charge}
-use Rattle.rules.specs.States.{State, under, is}
+use Rattle.rules.specs.States.{State}
 use Rattle.figures.specs.declared.shares.Shares.{Shares}
 use Rattle.figures.specs.declared.parts.Parts.{Parts}
 
@@ -41,16 +41,17 @@ parts_of s account = record {
   passed_on = from_customer (passed_on s) account;
 }
 
--- the same for any participant: nothing, unless the account is under it
-abbrev pub parts_under : State → ℕ → ℕ → Parts
-parts_under s participant account =
-    let mine = is (under s.opened account) participant in
-    record {
-      pool = cond mine (pooled s account) 0;
-      charge = cond mine (rest s account) 0;
-      kept = cond mine (from_customer (kept s) account) 0;
-      passed_on = cond mine (from_customer (passed_on s) account) 0;
-    }
+-- nothing of each, and two of them added up
+abbrev pub no_parts : Parts
+no_parts = record { pool = 0; charge = 0; kept = 0; passed_on = 0 }
+
+abbrev pub both_parts : (some more : Parts) → Parts
+both_parts some more = record {
+  pool = some.pool + more.pool;
+  charge = some.charge + more.charge;
+  kept = some.kept + more.kept;
+  passed_on = some.passed_on + more.passed_on;
+}
 
 -- the sums over all accounts
 abbrev pub total_parts : State → ℕ → Parts

@@ -1,14 +1,32 @@
+ghost use Rattle.std.specs.Prelude.{◌≡◌};
+ghost use Rattle.rules.specs.Sizes.{box};
 ghost use Rattle.figures.specs.Views.{without, without_bounded};
 
 use crate::ledger::Ledger;
+use rules::boxes::DepositBox;
 use rules::row::AccountRow;
 
 /// A ledger as it would be with some units gone from a box.
 #[derive(Drop)]
 pub(crate) struct After<'a, L> {
-    pub(crate) ledger: &'a L,
-    pub(crate) box_number: usize,
-    pub(crate) units: u64,
+    ledger: &'a L,
+    box_number: usize,
+    units: u64,
+}
+
+impl<'a, L: Ledger> After<'a, L> {
+    /// A ledger as it would be with some units gone from a box.
+    pub(crate) fn new(ledger: &'a L, place: DepositBox, units: u64) -> Self
+        ensures ledger { result.ledger.now ≡ ledger.now }
+        ensures place { result.box_number ≡ box place.account place.pocket place.asset }
+        ensures units { result.units ≡ units }
+    {
+        After {
+            ledger,
+            box_number: place.number(),
+            units,
+        }
+    }
 }
 
 impl<L: Ledger> Ledger for After<'_, L> {

@@ -16,6 +16,7 @@ pub fn customer_figures<L: Ledger>(ledger: &L, account: u16) -> (u64, u64)
 }
 
 /// What a participant may claim, and what the clearing house retains of its and its customers' deposits.
+#[tactic(auto, unfolding(rules::specs::Figures::participant_claim, rules::specs::Figures::retained, rules::specs::Figures::kept_from_pool))]
 pub fn participant_figures<L: Ledger>(ledger: &L, participant: u8) -> (u64, u64)
     ensures { result ≡ (participant_claim (L.Ledger.state ledger.now) participant, retained (L.Ledger.state ledger.now) participant) }
 {

@@ -8,6 +8,7 @@ pub mod coverage;
 pub mod ledger;
 pub mod lots;
 pub mod owners;
+mod participants;
 mod parts;
 mod pool;
 pub mod seizures;

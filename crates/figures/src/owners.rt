@@ -8,18 +8,12 @@ use rules::sizes::PARTICIPANTS;
 pub(crate) fn is_under<L: Ledger>(ledger: &L, account: u16, participant: u8) -> bool
     ensures { result ≡ is (under (L.Ledger.state ledger.now).opened account) participant }
 {
-    match ledger.owner(account) {
-        Some(owner) => owner == participant,
-        None => false,
-    }
+    ledger.owner(account) == Some(participant)
 }
 
 /// The participant that an account is under; past the last one where it is under none.
 pub fn participant_over<L: Ledger>(ledger: &L, account: u16) -> u8
     ensures { result ≡ participant_of (L.Ledger.state ledger.now) account }
 {
-    match ledger.owner(account) {
-        Some(owner) => owner,
-        None => PARTICIPANTS,
-    }
+    ledger.owner(account).unwrap_or(PARTICIPANTS)
 }

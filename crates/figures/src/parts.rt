@@ -1,13 +1,13 @@
-ghost use Rattle.std.specs.Prelude.{◌≡◌, ℕ, ◌≤◌};
-ghost use Rattle.rules.specs.Sizes.{most_amount};
-ghost use Rattle.figures.specs.Bounds.{most_pocket, most_total};
-ghost use Rattle.figures.specs.Parts.{parts_of, parts_under, total_parts};
+ghost use Rattle.std.specs.Prelude.{◌≡◌, ◌+◌, ◌^◌, ◌<◌};
+ghost use Rattle.figures.specs.Parts.{no_parts, both_parts, parts_of, total_parts};
 
 use crate::ledger::Ledger;
 use crate::owners::is_under;
 use crate::shares::customer_shares;
 use crate::values::pocket_value;
-use rules::sizes::{ACCOUNTS, PARTICIPANTS};
+use rules::accounts::is_house;
+use rules::pocket::Pocket;
+use rules::sizes::ACCOUNTS;
 
 /// What one account adds to the sums of its participant, or these sums over all its accounts, in yen.
 #[derive(Clone, Copy)]
@@ -22,15 +22,45 @@ pub(crate) struct Parts {
     pub(crate) passed_on: u64,
 }
 
+impl Parts {
+    /// Nothing of each.
+    fn none() -> Parts
+        ensures { result ≡ no_parts }
+    {
+        Parts {
+            pool: 0,
+            charge: 0,
+            kept: 0,
+            passed_on: 0,
+        }
+    }
+
+    /// Each with what there is more of it.
+    fn with(self, more: Parts) -> Parts
+        requires pool { self.pool + more.pool < 2 ^ 64 }
+        requires charge { self.charge + more.charge < 2 ^ 64 }
+        requires kept { self.kept + more.kept < 2 ^ 64 }
+        requires passed_on { self.passed_on + more.passed_on < 2 ^ 64 }
+        ensures { result ≡ both_parts self more }
+    {
+        Parts {
+            pool: self.pool + more.pool,
+            charge: self.charge + more.charge,
+            kept: self.kept + more.kept,
+            passed_on: self.passed_on + more.passed_on,
+        }
+    }
+}
+
 /// What an account adds to the sums of the participant that it is under.
+#[tactic(auto, unfolding(rules::specs::Figures::pooled, rules::specs::Figures::rest, rules::specs::Figures::from_customer))]
 pub(crate) fn account_parts<L: Ledger>(ledger: &L, account: u16) -> Parts
-    ensures value { result ≡ parts_of (L.Ledger.state ledger.now) account }
-    ensures small { (result.pool ≤ most_pocket) × ((result.charge ≤ most_amount) × ((result.kept ≤ most_amount) × (result.passed_on ≤ most_amount))) }
+    ensures { result ≡ parts_of (L.Ledger.state ledger.now) account }
 {
-    if account < u16::from(PARTICIPANTS) {
+    if is_house(account) {
         return Parts {
-            pool: pocket_value(ledger, account, 0),
-            charge: ledger.row(account).participant_debt,
+            pool: pocket_value(ledger, account, Pocket::Direct),
+            charge: ledger.row(account).declared.participant_debt,
             kept: 0,
             passed_on: 0,
         };
@@ -44,42 +74,15 @@ pub(crate) fn account_parts<L: Ledger>(ledger: &L, account: u16) -> Parts
     }
 }
 
-/// What an account adds to the sums of a participant, which is nothing where it is under another or under none.
-fn parts_under<L: Ledger>(ledger: &L, account: u16, participant: u8) -> Parts
-    ensures value { result ≡ parts_under (L.Ledger.state ledger.now) participant account }
-    ensures small { (result.pool ≤ most_pocket) × ((result.charge ≤ most_amount) × ((result.kept ≤ most_amount) × (result.passed_on ≤ most_amount))) }
-{
-    if is_under(ledger, account, participant) {
-        return account_parts(ledger, account);
-    }
-    Parts {
-        pool: 0,
-        charge: 0,
-        kept: 0,
-        passed_on: 0,
-    }
-}
-
 /// The sums of a participant over all its accounts.
 pub(crate) fn total_parts<L: Ledger>(ledger: &L, participant: u8) -> Parts
-    ensures value { result ≡ total_parts (L.Ledger.state ledger.now) participant }
-    ensures small { (result.pool ≤ most_total) × ((result.kept ≤ most_total) × (result.passed_on ≤ most_total)) }
+    ensures { result ≡ total_parts (L.Ledger.state ledger.now) participant }
 {
-    let mut pool = 0;
-    let mut charge = 0;
-    let mut kept = 0;
-    let mut passed_on = 0;
+    let mut sums = Parts::none();
     for account in 0..ACCOUNTS {
-        let more = parts_under(ledger, account, participant);
-        pool += more.pool;
-        charge += more.charge;
-        kept += more.kept;
-        passed_on += more.passed_on;
+        if is_under(ledger, account, participant) {
+            sums = sums.with(account_parts(ledger, account));
+        }
     }
-    Parts {
-        pool,
-        charge,
-        kept,
-        passed_on,
-    }
+    sums
 }

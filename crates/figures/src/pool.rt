@@ -1,49 +1,34 @@
-ghost use Rattle.std.specs.Prelude.{◌≡◌, ℕ, ◌≤◌, if◌then◌else◌};
-ghost use Rattle.rules.specs.States.{under, is};
+ghost use Rattle.std.specs.Prelude.{◌≡◌};
 ghost use Rattle.rules.specs.Figures.{pooled, pool, kept_from_pool as kept_from_pool_of};
-ghost use Rattle.figures.specs.Bounds.{most_pocket};
 
 use crate::ledger::Ledger;
-use crate::owners::is_under;
+use crate::participants::over;
 use crate::parts::total_parts;
 use crate::shares::excess_value;
 use crate::values::pocket_value;
-use rules::sizes::{ACCOUNTS, PARTICIPANTS};
+use rules::accounts::is_house;
+use rules::pocket::Pocket;
 
 /// What an account adds to the pool of its participant: the house pocket whole, of a customer account the excess.
+#[tactic(auto, unfolding(rules::specs::Figures::pooled))]
 fn pooled_value<L: Ledger>(ledger: &L, account: u16) -> u64
-    ensures value { result ≡ pooled (L.Ledger.state ledger.now) account }
-    ensures small { result ≤ most_pocket }
+    ensures { result ≡ pooled (L.Ledger.state ledger.now) account }
 {
-    if account < u16::from(PARTICIPANTS) {
-        return pocket_value(ledger, account, 0);
+    if is_house(account) {
+        return pocket_value(ledger, account, Pocket::Direct);
     }
     excess_value(ledger, account)
-}
-
-/// What an account adds to the pool of a participant, which is nothing where it is under another or under none.
-fn pooled_under<L: Ledger>(ledger: &L, account: u16, participant: u8) -> u64
-    ensures value { result ≡ (if is (under (L.Ledger.state ledger.now).opened account) participant then pooled (L.Ledger.state ledger.now) account else 0) }
-    ensures small { result ≤ most_pocket }
-{
-    if is_under(ledger, account, participant) {
-        return pooled_value(ledger, account);
-    }
-    0
 }
 
 /// A participant's pool, without the other sums over its accounts.
 pub(crate) fn pool_value<L: Ledger>(ledger: &L, participant: u8) -> u64
     ensures { result ≡ pool (L.Ledger.state ledger.now) participant }
 {
-    let mut sum = 0;
-    for account in 0..ACCOUNTS {
-        sum += pooled_under(ledger, account, participant);
-    }
-    sum
+    over(ledger, participant, |account| pooled_value(ledger, account))
 }
 
 /// What the clearing house keeps from a participant's pool.
+#[tactic(auto, unfolding(rules::specs::Figures::kept_from_pool))]
 pub(crate) fn kept_from_pool<L: Ledger>(ledger: &L, participant: u8) -> u64
     ensures { result ≡ kept_from_pool_of (L.Ledger.state ledger.now) participant }
 {

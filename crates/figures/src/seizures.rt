@@ -9,24 +9,19 @@ use crate::parts::account_parts;
 use crate::pool::kept_from_pool;
 use crate::shares::{customer_shares, excess_value, replaced_value};
 use crate::values::box_value;
-use rules::boxes::box_number;
+use rules::boxes::DepositBox;
 use rules::sizes::ASSETS;
 
 /// The market value that leaves a box with some units: what the box is worth before, less what it is worth after.
 /// (0 for an asset that there is not.)
-pub fn value_leaving<L: Ledger>(ledger: &L, account: u16, pocket: u8, asset: u8, units: u64) -> u64
-    ensures { result ≡ (if nat_lt asset assets then leaving (L.Ledger.state ledger.now) (taken (L.Ledger.state ledger.now) account pocket asset units) account pocket asset else 0) }
+pub fn value_leaving<L: Ledger>(ledger: &L, place: DepositBox, units: u64) -> u64
+    ensures { result ≡ (if nat_lt place.asset assets then leaving (L.Ledger.state ledger.now) (taken (L.Ledger.state ledger.now) place.account place.pocket place.asset units) place.account place.pocket place.asset else 0) }
 {
-    if asset >= ASSETS {
+    if place.asset >= ASSETS {
         return 0;
     }
-    let after = After {
-        ledger,
-        box_number: box_number(account, pocket, asset),
-        units,
-    };
-    let value_before = box_value(ledger, account, pocket, asset);
-    value_before.saturating_sub(box_value(&after, account, pocket, asset))
+    let after = After::new(ledger, place, units);
+    box_value(ledger, place).saturating_sub(box_value(&after, place))
 }
 
 /// Whether a value may not be seized: there is none, or it passes what the clearing house keeps of the paying account

@@ -8,6 +8,7 @@ ghost use Rattle.figures.specs.Parts.{shares_of, customer_shares};
 use crate::ledger::Ledger;
 use crate::tiers::split;
 use crate::values::pocket_value;
+use rules::pocket::Pocket;
 use rules::row::AccountRow;
 
 /// How what is deposited for a customer account is shared out, in yen.
@@ -29,13 +30,14 @@ pub(crate) struct Shares {
 
 /// Shares out the market values of the two pockets of a customer account, tier by tier.
 fn share_out(direct: u64, replacement: u64, row: &AccountRow) -> Shares
-    requires { (direct ≤ most_pocket) × (replacement ≤ most_pocket) }
+    requires direct { direct ≤ most_pocket }
+    requires replacement { replacement ≤ most_pocket }
     ensures { result ≡ shares_of direct replacement row.now }
 {
-    let (excess, replaced) = split(replacement, row.customer_margin);
-    let (claim, withheld) = split(direct + replaced, row.customer_debt);
-    let (passed_on, kept) = split(withheld, row.participant_debt);
-    let (rest, _) = split(row.participant_debt, withheld);
+    let (excess, replaced) = split(replacement, row.declared.customer_margin);
+    let (claim, withheld) = split(direct + replaced, row.declared.customer_debt);
+    let (passed_on, kept) = split(withheld, row.declared.participant_debt);
+    let (rest, _) = split(row.declared.participant_debt, withheld);
     Shares {
         claim,
         withheld,
@@ -47,37 +49,41 @@ fn share_out(direct: u64, replacement: u64, row: &AccountRow) -> Shares
 }
 
 /// How what is deposited for a customer account is shared out.
+#[tactic(auto, unfolding(rules::specs::Figures::own_pool, rules::specs::Figures::excess, rules::specs::Figures::withheld, rules::specs::Figures::claim, rules::specs::Figures::kept, rules::specs::Figures::passed_on))]
 pub(crate) fn customer_shares<L: Ledger>(ledger: &L, account: u16) -> Shares
-    ensures value { result ≡ customer_shares (L.Ledger.state ledger.now) account }
-    ensures small { (result.excess ≤ most_pocket) × ((result.rest ≤ most_amount) × ((result.kept ≤ most_amount) × (result.passed_on ≤ most_amount))) }
+    ensures { result ≡ customer_shares (L.Ledger.state ledger.now) account }
 {
     let row = ledger.row(account);
     share_out(
-        pocket_value(ledger, account, 0),
-        pocket_value(ledger, account, 1),
+        pocket_value(ledger, account, Pocket::Direct),
+        pocket_value(ledger, account, Pocket::Replacement),
         &row,
     )
 }
 
 /// What of a replacement pocket stands in for the customer margin.
 pub(crate) fn replaced_value<L: Ledger>(ledger: &L, account: u16) -> u64
-    ensures value { result ≡ lesser (replacement (L.Ledger.state ledger.now) account) ((L.Ledger.state ledger.now).rows account).customer_margin }
-    ensures small { result ≤ most_pocket }
+    ensures { result ≡ lesser (replacement (L.Ledger.state ledger.now) account) ((L.Ledger.state ledger.now).rows account).declared.customer_margin }
 {
-    pocket_value(ledger, account, 1).min(ledger.row(account).customer_margin)
+    pocket_value(ledger, account, Pocket::Replacement).min(
+        ledger.row(account).declared.customer_margin,
+    )
 }
 
 /// What of a replacement pocket exceeds the customer margin.
+#[tactic(auto, unfolding(rules::specs::Figures::excess))]
 pub(crate) fn excess_value<L: Ledger>(ledger: &L, account: u16) -> u64
-    ensures value { result ≡ excess (L.Ledger.state ledger.now) account }
-    ensures small { result ≤ most_pocket }
+    ensures { result ≡ excess (L.Ledger.state ledger.now) account }
 {
-    pocket_value(ledger, account, 1).saturating_sub(ledger.row(account).customer_margin)
+    pocket_value(ledger, account, Pocket::Replacement).saturating_sub(
+        ledger.row(account).declared.customer_margin,
+    )
 }
 
 /// The own pool of a customer account: its direct pocket, and what stands in for the customer margin.
+#[tactic(auto, unfolding(rules::specs::Figures::own_pool))]
 pub(crate) fn own_pool<L: Ledger>(ledger: &L, account: u16) -> u64
     ensures { result ≡ own_pool_of (L.Ledger.state ledger.now) account }
 {
-    pocket_value(ledger, account, 0) + replaced_value(ledger, account)
+    pocket_value(ledger, account, Pocket::Direct) + replaced_value(ledger, account)
 }

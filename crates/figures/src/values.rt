@@ -1,54 +1,64 @@
 ghost use Rattle.std.specs.Prelude.{◌≡◌, ℕ, ◌<◌, ◌≤◌};
-ghost use Rattle.rules.specs.Sizes.{assets};
+ghost use Rattle.rules.specs.declared.boxes.DepositBox.{DepositBox as box_name};
+ghost use Rattle.rules.specs.Pockets.{pocket_number};
+ghost use Rattle.rules.specs.Sizes.{assets, sum};
 ghost use Rattle.rules.specs.Values.{applied};
 ghost use Rattle.rules.specs.Figures.{worth, pocket_value, applied_pocket as applied_pocket_of};
-ghost use Rattle.figures.specs.Bounds.{most_worth, most_pocket};
+ghost use Rattle.figures.specs.Bounds.{most_worth};
 
 use crate::ledger::Ledger;
-use rules::boxes::box_number;
+use rules::boxes::DepositBox;
+use rules::pocket::Pocket;
 use rules::sizes::ASSETS;
 use rules::value::{applied_value, market_value};
 
 /// The market value of a box.
-pub(crate) fn box_value<L: Ledger>(ledger: &L, account: u16, pocket: u8, asset: u8) -> u64
-    requires { asset < assets }
-    ensures value { result ≡ worth (L.Ledger.state ledger.now).price (L.Ledger.state ledger.now).held account pocket asset }
+pub(crate) fn box_value<L: Ledger>(ledger: &L, place: DepositBox) -> u64
+    requires { place.asset < assets }
+    ensures value { result ≡ worth (L.Ledger.state ledger.now).price (L.Ledger.state ledger.now).held place.account place.pocket place.asset }
     ensures small { result ≤ most_worth }
 {
-    let units = ledger.units(box_number(account, pocket, asset));
-    market_value(asset, ledger.price(asset), units).unwrap_or(0)
-}
-
-/// The market value of a pocket: its boxes', each rounded down by itself, added up.
-pub(crate) fn pocket_value<L: Ledger>(ledger: &L, account: u16, pocket: u8) -> u64
-    ensures value { result ≡ pocket_value (L.Ledger.state ledger.now).price (L.Ledger.state ledger.now).held account pocket }
-    ensures small { result ≤ most_pocket }
-{
-    let mut sum = 0;
-    for asset in 0..ASSETS {
-        sum += box_value(ledger, account, pocket, asset);
-    }
-    sum
+    let units = ledger.units(place.number());
+    market_value(place.asset, ledger.price(place.asset), units).unwrap_or(0)
 }
 
 /// The applied value of a box: what the haircut leaves of its market value.
-fn applied_box<L: Ledger>(ledger: &L, account: u16, pocket: u8, asset: u8) -> u64
-    requires { asset < assets }
-    ensures value { result ≡ applied (worth (L.Ledger.state ledger.now).price (L.Ledger.state ledger.now).held account pocket asset) ((L.Ledger.state ledger.now).haircut asset) }
+fn applied_box<L: Ledger>(ledger: &L, place: DepositBox) -> u64
+    requires { place.asset < assets }
+    ensures value { result ≡ applied (worth (L.Ledger.state ledger.now).price (L.Ledger.state ledger.now).held place.account place.pocket place.asset) ((L.Ledger.state ledger.now).haircut place.asset) }
     ensures small { result ≤ most_worth }
 {
-    let market = box_value(ledger, account, pocket, asset);
-    applied_value(market, ledger.haircut(asset)).unwrap_or(0)
+    let market = box_value(ledger, place);
+    applied_value(market, ledger.haircut(place.asset)).unwrap_or(0)
 }
 
-/// The applied value of a pocket: its boxes', each rounded down by itself, added up.
-pub(crate) fn applied_pocket<L: Ledger>(ledger: &L, account: u16, pocket: u8) -> u64
-    ensures value { result ≡ applied_pocket_of (L.Ledger.state ledger.now) account pocket }
-    ensures small { result ≤ most_pocket }
+/// The boxes of a pocket, each valued by itself, added up.
+fn boxes_of<F: Fn(DepositBox) -> u64>(account: u16, pocket: Pocket, value_of: F) -> u64
+    requires callable { (b : box_name) → b.asset < assets → F.pre value_of b }
+    requires few { (b : box_name) (value : ℕ) → b.asset < assets → F.post value_of b value → value ≤ most_worth }
+    ensures { (f : ℕ → ℕ) → ((b : box_name) (value : ℕ) → b.account ≡ account → b.pocket ≡ pocket_number pocket → b.asset < assets → F.post value_of b value → value ≡ f b.asset) → result ≡ sum assets f }
 {
     let mut sum = 0;
     for asset in 0..ASSETS {
-        sum += applied_box(ledger, account, pocket, asset);
+        sum += value_of(DepositBox {
+            account,
+            pocket: pocket.number(),
+            asset,
+        });
     }
     sum
+}
+
+/// The market value of a pocket.
+pub(crate) fn pocket_value<L: Ledger>(ledger: &L, account: u16, pocket: Pocket) -> u64
+    ensures { result ≡ pocket_value (L.Ledger.state ledger.now).price (L.Ledger.state ledger.now).held account (pocket_number pocket) }
+{
+    boxes_of(account, pocket, |place| box_value(ledger, place))
+}
+
+/// The applied value of a pocket.
+pub(crate) fn applied_pocket<L: Ledger>(ledger: &L, account: u16, pocket: Pocket) -> u64
+    ensures { result ≡ applied_pocket_of (L.Ledger.state ledger.now) account (pocket_number pocket) }
+{
+    boxes_of(account, pocket, |place| applied_box(ledger, place))
 }

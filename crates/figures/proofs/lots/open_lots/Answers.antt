@@ -1,15 +1,11 @@
-use Rattle.std.proofs.Common.{arith, rules}
-use Rattle.rules.specs.Figures.{over}
-use Rattle.rules.specs.Orders.{open_lots}
-use Rattle.rules.proofs.Sums.{sum_none, sum_turn}
+use Rattle.std.proofs.Common.{rules}
+use Rattle.rules.specs.Orders.{row_lots, open_lots}
+use Rattle.figures.proofs.Bounded.{row_lots_most}
 use Rattle.figures.proofs.lots.open_lots.Goals as goal
 
-pub loop-account-init : goal.loop-account-init
-loop-account-init g c = search (rules, sum_none)
-
-pub loop-account-preserved : goal.loop-account-preserved
-loop-account-preserved g c = (sum_turn _ _ _ _ c.loop-account.invariant.0 c.lots_under-sum.ensures.value, omega arith)
+pub over-requires-clause-few : goal.over-requires-clause-few
+over-requires-clause-few g c = λ account value l e. let most = row_lots_most g.L.Ledger.state g.L.Ledger.laws c.args.ledger.now account in search (rules, most)
 
 pub returns : goal.returns
-unfolding open_lots over
-returns g c = search rules
+unfolding open_lots
+returns g c = c.over.ensures (λ account. row_lots ((g.L.Ledger.state c.args.ledger.now).rows account).counts) (λ account value l e. search rules)

@@ -1,6 +1,7 @@
-use Rattle.std.proofs.Common.{◌≡◌, ◌+◌, ◌*◌, ◌≤◌, get_or}
+use Rattle.std.proofs.Common.{◌≡◌, ◌+◌, ◌*◌, ◌≤◌}
 use Rattle.rules.specs.Sizes.{sum}
+use Rattle.rules.specs.States.{lots_of}
 use Rattle.figures.proofs.lots.row_lots.Given as goal
 
-abbrev pub invariant-loop-contract : goal.invariant-loop-contract
-invariant-loop-contract l = (l.sum ≡ sum l.contract (λ k. get_or l.counts.long k 0 + get_or l.counts.short k 0)) × (l.sum ≤ l.contract * 8589934590)
+abbrev pub invariant-loop-lots : goal.invariant-loop-lots
+invariant-loop-lots l = (l.sum ≡ sum l.lots-index (λ k. (lots_of l.counts k).long + (lots_of l.counts k).short)) × (l.sum ≤ l.lots-index * 8589934590)

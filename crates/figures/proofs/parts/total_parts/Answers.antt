@@ -1,43 +1,31 @@
-use Rattle.std.proofs.Common.{◌≡◌, ℕ, ap, ◌∙◌, arith, rules}
-use Rattle.rules.specs.Sizes.{accounts, sum}
+use Rattle.std.proofs.Common.{◌≡◌, ap, sym, ◌∙◌, arith, rules}
+use Rattle.rules.specs.Sizes.{accounts}
 use Rattle.rules.specs.Figures.{over, pool, charge}
-use Rattle.rules.proofs.Sums.{sum_none, sum_turn}
-use Rattle.figures.specs.declared.parts.Parts.{Parts}
+use Rattle.rules.proofs.Sums.{sum_none}
+use Rattle.figures.proofs.Bounded.{room}
+use Rattle.figures.proofs.Turns.{parts_below, parts_added, parts_passed}
 use Rattle.figures.proofs.parts.total_parts.Goals as goal
+use Rattle.figures.proofs.parts.total_parts.Goals.{then-is_under, else-is_under}
+
+pub with-sums-requires : goal.with-sums-requires
+with-sums-requires g c =
+    let fits = room g.L.Ledger.state g.L.Ledger.laws c.args.ledger.now c.args.participant c.loop-account.account _ _ c.loop-account-test.true c.loop-account.invariant c.account_parts.ensures in
+    record { pool = fits.0; charge = fits.1; kept = fits.2; passed_on = fits.3 }
 
 pub loop-account-init : goal.loop-account-init
 loop-account-init g c = search (rules, sum_none)
 
 pub loop-account-preserved : goal.loop-account-preserved
 loop-account-preserved g c =
-    let e = c.parts_under-more.ensures.value in
-    let i = c.loop-account.invariant in (
-      sum_turn _ _ _ _ i.0 (ap (λ (p : Parts). p.pool) e),
-      omega arith,
-      sum_turn _ _ _ _ i.2 (ap (λ (p : Parts). p.charge) e),
-      omega arith,
-      sum_turn _ _ _ _ i.4 (ap (λ (p : Parts). p.kept) e),
-      omega arith,
-      sum_turn _ _ _ _ i.6 (ap (λ (p : Parts). p.passed_on) e),
-      omega arith,
-    )
-
--- the sums once all accounts are gone through
-all : (n x : ℕ) (f : ℕ → ℕ) → n ≡ accounts → x ≡ sum n f → x ≡ sum accounts f
-all n x f e h = h ∙ ap (λ (m : ℕ). sum m f) e
-
-abbrev made : ℕ → ℕ → ℕ → ℕ → Parts
-made pool charge kept passed_on = record { pool = pool; charge = charge; kept = kept; passed_on = passed_on }
-
-same : (a b c d a' b' c' d' : ℕ) → a ≡ a' → b ≡ b' → c ≡ c' → d ≡ d' → made a b c d ≡ made a' b' c' d'
-same a b c d a' b' c' d' p q r s = cc
+    let s = g.L.Ledger.state c.args.ledger.now in
+    elim c.if-is_under.branch [
+      then-is_under w ↦
+        rw w.sums-is (w.with-sums.ensures ∙ parts_added s c.args.participant _ _ c.loop-account.invariant _ w.account_parts.ensures (sym c.is_under.ensures ∙ w.if-is_under.true))
+      | else-is_under w ↦ rw w.sums-is (parts_passed s c.args.participant _ _ c.loop-account.invariant (sym c.is_under.ensures ∙ w.if-is_under.false))
+    ]
 
 pub returns : goal.returns
 unfolding over pool charge
 returns g c =
-    let i = c.loop-account.invariant in
     let end : c.loop-account.account ≡ accounts = omega arith in
-    record {
-      value = same _ _ _ _ _ _ _ _ (all _ _ _ end i.0) (all _ _ _ end i.2) (all _ _ _ end i.4) (all _ _ _ end i.6);
-      small = (omega arith, (omega arith, omega arith));
-    }
+    c.loop-account.invariant ∙ ap (parts_below (g.L.Ledger.state c.args.ledger.now) c.args.participant) end

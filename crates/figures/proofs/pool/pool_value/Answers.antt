@@ -1,14 +1,11 @@
-use Rattle.std.proofs.Common.{arith, rules}
-use Rattle.rules.specs.Figures.{over, pool}
-use Rattle.rules.proofs.Sums.{sum_none, sum_turn}
+use Rattle.std.proofs.Common.{rules}
+use Rattle.rules.specs.Figures.{pooled, pool}
+use Rattle.figures.proofs.Bounded.{pooled_most}
 use Rattle.figures.proofs.pool.pool_value.Goals as goal
 
-pub loop-account-init : goal.loop-account-init
-loop-account-init g c = search (rules, sum_none)
-
-pub loop-account-preserved : goal.loop-account-preserved
-loop-account-preserved g c = (sum_turn _ _ _ _ c.loop-account.invariant.0 c.pooled_under-sum.ensures.value, omega arith)
+pub over-requires-clause-few : goal.over-requires-clause-few
+over-requires-clause-few g c = λ account value l e. let most = pooled_most g.L.Ledger.state g.L.Ledger.laws c.args.ledger.now account in search (rules, most)
 
 pub returns : goal.returns
-unfolding pool over
-returns g c = search rules
+unfolding pool
+returns g c = c.over.ensures (pooled (g.L.Ledger.state c.args.ledger.now)) (λ account value l e. search rules)

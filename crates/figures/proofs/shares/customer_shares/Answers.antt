@@ -1,13 +1,9 @@
-use Rattle.std.proofs.Common.{rules}
-use Rattle.rules.specs.Figures.{own_pool, excess, withheld, claim, kept, passed_on}
-use Rattle.figures.proofs.Shared.{shares_most}
+use Rattle.std.proofs.Common.{arith}
+use Rattle.figures.proofs.Bounded.{pocket_most}
 use Rattle.figures.proofs.shares.customer_shares.Goals as goal
 
-pub returns : goal.returns
-unfolding own_pool excess withheld claim kept passed_on
-returns g c =
-    let allowed = (g.L.Ledger.laws.rows c.args.ledger.now c.args.account).amounts in
-    record {
-      value = search rules;
-      small = shares_most _ _ c.row-row.result _ c.share_out.ensures c.pocket_value-2.ensures.small (rw c.row-row.ensures allowed.1) (rw c.row-row.ensures allowed.2);
-    }
+pub share_out-requires-clause-direct : goal.share_out-requires-clause-direct
+share_out-requires-clause-direct g c = omega (arith, pocket_most g.L.Ledger.state g.L.Ledger.laws c.args.ledger.now c.args.account 0)
+
+pub share_out-requires-clause-replacement : goal.share_out-requires-clause-replacement
+share_out-requires-clause-replacement g c = omega (arith, pocket_most g.L.Ledger.state g.L.Ledger.laws c.args.ledger.now c.args.account 1)

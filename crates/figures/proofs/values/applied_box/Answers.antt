@@ -11,7 +11,7 @@ returns g c =
     let market = c.box_value-market.result in
     let haircut = c.haircut.result in
     let m = c.box_value-market.ensures.small in
-    let h : haircut ≤ most_haircut = rw c.haircut.ensures (g.L.Ledger.cuts c.args.ledger.now c.args.asset) in
+    let h : haircut ≤ most_haircut = rw c.haircut.ensures (g.L.Ledger.cuts c.args.ledger.now c.args.place.asset) in
     let value : c.unwrap_or.result ≡ applied market haircut = c.unwrap_or.ensures ∙ ap (λ (r : Result ℕ Refusal). result_unwrap_or r 0) (c.applied_value.ensures ∙ applied_answered market haircut m h) in
     record {
       value = value ∙ ap₂ applied c.box_value-market.ensures.value c.haircut.ensures;

@@ -1,14 +1,10 @@
-use Rattle.std.proofs.Common.{arith, rules}
-use Rattle.rules.specs.Figures.{applied_pocket}
-use Rattle.rules.proofs.Sums.{sum_none, sum_turn}
+use Rattle.std.proofs.Common.{rules}
+use Rattle.rules.specs.Values.{applied}
+use Rattle.rules.specs.Figures.{worth, applied_pocket}
 use Rattle.figures.proofs.values.applied_pocket.Goals as goal
-
-pub loop-asset-init : goal.loop-asset-init
-loop-asset-init g c = search (rules, sum_none)
-
-pub loop-asset-preserved : goal.loop-asset-preserved
-loop-asset-preserved g c = (sum_turn _ _ _ _ c.loop-asset.invariant.0 c.applied_box-sum.ensures.value, omega arith)
 
 pub returns : goal.returns
 unfolding applied_pocket
-returns g c = search rules
+returns g c =
+    let s = g.L.Ledger.state c.args.ledger.now in
+    c.boxes_of.ensures (λ asset. applied (worth s.price s.held c.args.account _ asset) (s.haircut asset)) (λ b value a p l e. search rules)

@@ -10,15 +10,15 @@ pub returns : goal.returns
 returns g c =
     let ledger = c.args.ledger.now in
     let laws = g.L.Ledger.laws in
-    let asset = c.args.asset in
+    let asset = c.args.place.asset in
     let price = c.price.result in
     let units = c.units-units.result in
     let p : price ≤ most_price = rw c.price.ensures (laws.prices ledger asset) in
-    let u : units ≤ most_units = rw c.units-units.ensures (laws.units ledger c.box_number.result) in
+    let u : units ≤ most_units = rw c.units-units.ensures (laws.units ledger c.number.result) in
     let one : asset ≡ 0 → price ≡ 1 = λ e. c.price.ensures ∙ ap (g.L.Ledger.state ledger).price e ∙ laws.yen ledger in
     let answer : c.market_value.result ≡ Ok (market asset price units) = c.market_value.ensures ∙ worth_answered asset price units c.requires p u in
     let value : c.unwrap_or.result ≡ market asset price units = c.unwrap_or.ensures ∙ ap (λ (r : Result ℕ Refusal). result_unwrap_or r 0) answer in
     record {
-      value = value ∙ ap₂ (market asset) c.price.ensures (c.units-units.ensures ∙ ap (g.L.Ledger.state ledger).held c.box_number.ensures);
+      value = value ∙ ap₂ (market asset) c.price.ensures (c.units-units.ensures ∙ ap (g.L.Ledger.state ledger).held c.number.ensures);
       small = rw value (worth_most asset price units c.requires one p u);
     }
