@@ -1,16 +1,18 @@
 -- A book straight from its making.
-use Rattle.std.proofs.Common.{◌≡◌, ℕ, zero, suc, cond, eqb, [], ◌∷◌, get_or, replicate, Option, refl, arith}
+use Rattle.std.proofs.Common.{◌≡◌, ℕ, zero, suc, cond, eqb, [], ◌∷◌, replicate, Option, List, refl, ◌≤◌, arith}
+use Rattle.std.proofs.lemmas.Bool.{cond_both}
 use Rattle.std.proofs.lemmas.Bool.Decides.{nat_tests}
 use Rattle.rules.specs.declared.row.AccountRow.{AccountRow}
 use Rattle.rules.specs.declared.standing.Standing.{Standing}
-use Rattle.rules.specs.Sizes.{accounts, contracts}
+use Rattle.rules.specs.Sizes.{accounts, most_price, most_haircut}
 use Rattle.rules.specs.States.{State, Countable, flat, empty_row, made}
 use Rattle.rules.specs.Orders.{with_held}
-use Rattle.rules.proofs.Same.{get_or_same}
-use Rattle.book.specs.Tables.{AllCountable, AllAffordable, HousesCustomerless}
+use Rattle.rules.proofs.Same.{get_or_same, none_flat}
+use Rattle.book.specs.declared.mark.Mark.{Mark}
+use Rattle.book.specs.Tables.{AllCountable, AllAffordable, HousesCustomerless, yen_mark, unmarked, mark_of, Priced, Cut}
 
 countable : Countable flat
-countable k h = (rw (get_or_same {X = ℕ} contracts 0 k) (omega arith), rw (get_or_same {X = ℕ} contracts 0 k) (omega arith))
+countable k h = rw (none_flat k) (omega arith, omega arith)
 
 pub all_countable : AllCountable (replicate accounts empty_row)
 all_countable account = rw (get_or_same accounts empty_row account) countable
@@ -21,19 +23,29 @@ all_affordable account = rw (get_or_same accounts empty_row account) (omega arit
 pub houses_customerless : HousesCustomerless (replicate accounts empty_row)
 houses_customerless account h = rw (get_or_same accounts empty_row account) (refl, refl)
 
-pub fresh_prices : (asset : ℕ) → ◌≡◌ {A = ℕ} (get_or (1 ∷ 0 ∷ 0 ∷ 0 ∷ []) asset 0) (cond (eqb asset 0) 1 0)
-fresh_prices zero = refl
-fresh_prices (suc zero) = refl
-fresh_prices (suc (suc zero)) = refl
-fresh_prices (suc (suc (suc zero))) = refl
-fresh_prices (suc (suc (suc (suc n)))) = grind (arith, nat_tests)
+-- the marks of a fresh book, yen at its own
+abbrev pub fresh_marks : List Mark
+fresh_marks = yen_mark ∷ unmarked ∷ unmarked ∷ unmarked ∷ []
 
-pub fresh_haircuts : (asset : ℕ) → ◌≡◌ {A = ℕ} (get_or (0 ∷ 1000 ∷ 1000 ∷ 1000 ∷ []) asset 1000) (cond (eqb asset 0) 0 1000)
-fresh_haircuts zero = refl
-fresh_haircuts (suc zero) = refl
-fresh_haircuts (suc (suc zero)) = refl
-fresh_haircuts (suc (suc (suc zero))) = refl
-fresh_haircuts (suc (suc (suc (suc n)))) = grind (arith, nat_tests)
+pub fresh_price : (asset : ℕ) → (mark_of fresh_marks asset).price ≡ cond (eqb asset 0) 1 0
+fresh_price zero = refl
+fresh_price (suc zero) = refl
+fresh_price (suc (suc zero)) = refl
+fresh_price (suc (suc (suc zero))) = refl
+fresh_price (suc (suc (suc (suc n)))) = grind (arith, nat_tests)
+
+pub fresh_haircut : (asset : ℕ) → (mark_of fresh_marks asset).haircut ≡ cond (eqb asset 0) 0 most_haircut
+fresh_haircut zero = refl
+fresh_haircut (suc zero) = refl
+fresh_haircut (suc (suc zero)) = refl
+fresh_haircut (suc (suc (suc zero))) = refl
+fresh_haircut (suc (suc (suc (suc n)))) = grind (arith, nat_tests)
+
+pub fresh_priced : Priced fresh_marks
+fresh_priced = (refl, λ asset. rw (fresh_price asset) (cond_both (eqb asset 0) 1 0 (λ n. n ≤ most_price) (λ e. omega arith) (λ e. omega arith)))
+
+pub fresh_cut : Cut fresh_marks
+fresh_cut asset = rw (fresh_haircut asset) (cond_both (eqb asset 0) 0 most_haircut (λ n. n ≤ most_haircut) (λ e. omega arith) (λ e. omega arith))
 
 -- part by part
 pub fresh_is : (rows : ℕ → AccountRow) (opened : ℕ → Option ℕ) (standing : ℕ → Standing) (price haircut held : ℕ → ℕ) →

@@ -1,13 +1,13 @@
 -- A book of the code as a state and terms of the rules.
-use Rattle.std.specs.Prelude.{ℕ, None, slice_index, slice_index_or}
+use Rattle.std.specs.Prelude.{ℕ, None, slice_index_or}
 use Rattle.rules.specs.declared.row.Counts.{Counts}
 use Rattle.rules.specs.declared.row.AccountRow.{AccountRow}
 use Rattle.rules.specs.declared.standing.Standing.TheVariants.{Active}
-use Rattle.rules.specs.Sizes.{most_haircut}
 use Rattle.rules.specs.States.{State, Terms, empty_row}
 use Rattle.custody.specs.Boxes as custodian
 use Rattle.book.specs.declared.table.AccountTable.{AccountTable}
 use Rattle.book.specs.declared.records.Records.{Records}
+use Rattle.book.specs.Tables.{mark_of}
 
 -- the row of an account; past the last account an empty one
 unfoldable pub rows_of : AccountTable → ℕ → AccountRow
@@ -18,8 +18,8 @@ state_of records boxes = record {
   rows = rows_of records.table;
   opened = λ account. slice_index_or records.opened account None;
   standing = λ participant. slice_index_or records.standings participant Active;
-  price = λ asset. slice_index records.prices asset;
-  haircut = λ asset. slice_index_or records.haircuts asset most_haircut;
+  price = λ asset. (mark_of records.marks asset).price;
+  haircut = λ asset. (mark_of records.marks asset).haircut;
   held = boxes.held;
 }
 

@@ -5,9 +5,9 @@ ghost use Rattle.book.specs.BookLaws.{lawful};
 ghost use Rattle.book.specs.Promise.{Promise};
 
 use crate::limits::{
-    amounts_out_of_range, counts_barred, counts_out_of_range, is_house, no_such_pocket,
-    units_out_of_range,
+    amounts_out_of_range, counts_barred, counts_out_of_range, no_such_pocket, units_out_of_range,
 };
+use crate::mark::Mark;
 use crate::moves::take_out;
 use crate::orders::MarginBook;
 use crate::records::Records;
@@ -17,8 +17,10 @@ use figures::ledger::Ledger;
 use figures::lots::open_lots;
 use figures::owners::participant_over;
 use margin::method::MarginMethod;
-use rules::boxes::box_number;
+use rules::accounts::is_house;
+use rules::boxes::DepositBox;
 use rules::refusal::Refusal;
+use rules::row::{Declared, Lots};
 use rules::sizes::{ACCOUNTS, ASSETS, BOXES, MOST_HAIRCUT, MOST_PRICE, PARTICIPANTS};
 use rules::standing::{DefaultEvent, Standing};
 
@@ -57,10 +59,11 @@ impl<Custody: Custodian, HouseMethod: MarginMethod, CustomerMethod: MarginMethod
     fn standing(&self, participant: u8) -> Standing
         ensures { result ≡ (state_of self.now.records (Custody.Custodian.boxes self.now.custody)).standing participant }
     {
-        match self.records.standings.get(participant as usize) {
-            Some(standing) => *standing,
-            None => Standing::Active,
-        }
+        self.records
+            .standings
+            .get(participant as usize)
+            .copied()
+            .unwrap_or(Standing::Active)
     }
 
     /// The standing of the participant that an account is under.
@@ -110,8 +113,7 @@ impl<Custody: Custodian, HouseMethod: MarginMethod, CustomerMethod: MarginMethod
         if price > MOST_PRICE || haircut > MOST_HAIRCUT {
             return Err(Refusal::OutOfRange);
         }
-        self.records.prices[asset as usize] = price;
-        self.records.haircuts[asset as usize] = haircut;
+        self.records.marks[asset as usize] = Mark { price, haircut };
         Ok(())
     }
 
@@ -125,22 +127,15 @@ impl<Custody: Custodian, HouseMethod: MarginMethod, CustomerMethod: MarginMethod
         if !self.knows(account) {
             return Err(Refusal::WrongAccount);
         }
-        if counts_out_of_range(contract, long, short) {
+        let new = Lots { long, short };
+        if counts_out_of_range(contract, new) {
             return Err(Refusal::OutOfRange);
         }
-        let old = self.row(account).counts;
-        let old_long = old.long[contract as usize];
-        let old_short = old.short[contract as usize];
-        if counts_barred(
-            self.standing_over(account),
-            old_long,
-            old_short,
-            long,
-            short,
-        ) {
+        let old = self.row(account).counts.each[contract as usize];
+        if counts_barred(self.standing_over(account), old, new) {
             return Err(Refusal::WrongStanding);
         }
-        self.records.table.position(account, contract, long, short);
+        self.records.table.position(account, contract, new);
         Ok(())
     }
 
@@ -154,12 +149,15 @@ impl<Custody: Custodian, HouseMethod: MarginMethod, CustomerMethod: MarginMethod
         if !self.knows(account) {
             return Err(Refusal::WrongAccount);
         }
-        if amounts_out_of_range(account, customer_margin, customer_debt, participant_debt) {
+        let new = Declared {
+            customer_margin,
+            customer_debt,
+            participant_debt,
+        };
+        if amounts_out_of_range(account, new) {
             return Err(Refusal::OutOfRange);
         }
-        self.records
-            .table
-            .declare(account, customer_margin, customer_debt, participant_debt);
+        self.records.table.declare(account, new);
         Ok(())
     }
 
@@ -176,13 +174,22 @@ impl<Custody: Custodian, HouseMethod: MarginMethod, CustomerMethod: MarginMethod
         if units_out_of_range(units) {
             return Err(Refusal::OutOfRange);
         }
-        self.custody.put(box_number(account, pocket, asset), units)?;
-        Ok(())
+        let place = DepositBox {
+            account,
+            pocket,
+            asset,
+        };
+        Ok(self.custody.put(place.number(), units)?)
     }
 
     fn withdraw(&mut self, account: u16, pocket: u8, asset: u8, units: u64) -> Result<(), Refusal> {
-        self.check_withdrawal(account, pocket, asset, units)?;
-        take_out(&mut self.custody, box_number(account, pocket, asset), units)
+        let place = DepositBox {
+            account,
+            pocket,
+            asset,
+        };
+        self.check_withdrawal(place, units)?;
+        take_out(&mut self.custody, place.number(), units)
     }
 
     fn suspend(&mut self, participant: u8) -> Result<(), Refusal> {
@@ -215,8 +222,13 @@ impl<Custody: Custodian, HouseMethod: MarginMethod, CustomerMethod: MarginMethod
         paid: u16,
         units: u64,
     ) -> Result<(), Refusal> {
-        let value = self.check_seizure(side, paying, pocket, asset, paid, units)?;
-        take_out(&mut self.custody, box_number(paying, pocket, asset), units)?;
+        let place = DepositBox {
+            account: paying,
+            pocket,
+            asset,
+        };
+        let value = self.check_seizure(side, place, paid, units)?;
+        take_out(&mut self.custody, place.number(), units)?;
         self.records.table.pay(paid, side, pocket, value);
         Ok(())
     }

@@ -5,14 +5,15 @@ ghost use Rattle.rules.specs.Orders.{tests, taken, leaving, withdraw, seize};
 ghost use Rattle.book.specs.States.{state_of, terms_of};
 
 use crate::book::Book;
-use crate::limits::{is_house, no_such_pocket, units_out_of_range, wrong_side};
+use crate::limits::{no_such_pocket, units_out_of_range, wrong_side};
 use custody::custodian::Custodian;
 use figures::coverage::covering_after;
 use figures::owners::participant_over;
 use figures::seizures::{is_seizure_barred, value_leaving};
 use figures::withdrawals::is_withdrawal_barred;
 use margin::method::MarginMethod;
-use rules::boxes::box_number;
+use rules::accounts::is_house;
+use rules::boxes::DepositBox;
 use rules::refusal::Refusal;
 use rules::sizes::ASSETS;
 use rules::standing::Standing;
@@ -23,6 +24,7 @@ impl<Custody: Custodian, HouseMethod: MarginMethod, CustomerMethod: MarginMethod
     CustomerMethod,
 > {
     /// What an account has to be covered by, by the method for its kind.
+    #[tactic(auto, unfolding(rules::specs::Figures::maintenance_amount))]
     fn maintenance_amount(&self, account: u16) -> u64
         ensures { result ≡ maintenance_amount (terms_of (Custody.Custodian.boxes self.now.custody) (HouseMethod.MarginMethod.amount self.now.house) (CustomerMethod.MarginMethod.amount self.now.customers)) (state_of self.now.records (Custody.Custodian.boxes self.now.custody)) account }
     {
@@ -35,15 +37,14 @@ impl<Custody: Custodian, HouseMethod: MarginMethod, CustomerMethod: MarginMethod
     }
 
     /// Tries the refusals of a withdrawal in their order. Nothing is taken before all have been tried.
-    pub(crate) fn check_withdrawal(
-        &self,
-        account: u16,
-        pocket: u8,
-        asset: u8,
-        units: u64,
-    ) -> Result<(), Refusal>
-        ensures { result ≡ answered (tests (terms_of (Custody.Custodian.boxes self.now.custody) (HouseMethod.MarginMethod.amount self.now.house) (CustomerMethod.MarginMethod.amount self.now.customers)) (state_of self.now.records (Custody.Custodian.boxes self.now.custody)) (withdraw account pocket asset units)) tt }
+    pub(crate) fn check_withdrawal(&self, place: DepositBox, units: u64) -> Result<(), Refusal>
+        ensures { result ≡ answered (tests (terms_of (Custody.Custodian.boxes self.now.custody) (HouseMethod.MarginMethod.amount self.now.house) (CustomerMethod.MarginMethod.amount self.now.customers)) (state_of self.now.records (Custody.Custodian.boxes self.now.custody)) (withdraw place.account place.pocket place.asset units)) tt }
     {
+        let DepositBox {
+            account,
+            pocket,
+            asset,
+        } = place;
         if !self.knows(account) {
             return Err(Refusal::WrongAccount);
         }
@@ -59,13 +60,13 @@ impl<Custody: Custodian, HouseMethod: MarginMethod, CustomerMethod: MarginMethod
         if let Standing::Suspended = self.standing_over(account) {
             return Err(Refusal::WrongStanding);
         }
-        if self.custody.held(box_number(account, pocket, asset)) < units {
+        if self.custody.held(place.number()) < units {
             return Err(Refusal::TooFewUnits);
         }
-        if covering_after(self, account, pocket, asset, units) < self.maintenance_amount(account) {
+        if covering_after(self, place, units) < self.maintenance_amount(account) {
             return Err(Refusal::BelowMaintenance);
         }
-        if is_withdrawal_barred(self, account, pocket, asset, units) {
+        if is_withdrawal_barred(self, place, units) {
             return Err(Refusal::BeyondEntitlement);
         }
         Ok(())
@@ -76,14 +77,17 @@ impl<Custody: Custodian, HouseMethod: MarginMethod, CustomerMethod: MarginMethod
     pub(crate) fn check_seizure(
         &self,
         side: u8,
-        paying: u16,
-        pocket: u8,
-        asset: u8,
+        from: DepositBox,
         paid: u16,
         units: u64,
     ) -> Result<u64, Refusal>
-        ensures { result ≡ answered (tests (terms_of (Custody.Custodian.boxes self.now.custody) (HouseMethod.MarginMethod.amount self.now.house) (CustomerMethod.MarginMethod.amount self.now.customers)) (state_of self.now.records (Custody.Custodian.boxes self.now.custody)) (seize side paying pocket asset paid units)) (leaving (state_of self.now.records (Custody.Custodian.boxes self.now.custody)) (taken (state_of self.now.records (Custody.Custodian.boxes self.now.custody)) paying pocket asset units) paying pocket asset) }
+        ensures { result ≡ answered (tests (terms_of (Custody.Custodian.boxes self.now.custody) (HouseMethod.MarginMethod.amount self.now.house) (CustomerMethod.MarginMethod.amount self.now.customers)) (state_of self.now.records (Custody.Custodian.boxes self.now.custody)) (seize side from.account from.pocket from.asset paid units)) (leaving (state_of self.now.records (Custody.Custodian.boxes self.now.custody)) (taken (state_of self.now.records (Custody.Custodian.boxes self.now.custody)) from.account from.pocket from.asset units) from.account from.pocket from.asset) }
     {
+        let DepositBox {
+            account: paying,
+            pocket,
+            asset,
+        } = from;
         if !self.knows(paying) || !self.knows(paid) {
             return Err(Refusal::WrongAccount);
         }
@@ -102,10 +106,10 @@ impl<Custody: Custodian, HouseMethod: MarginMethod, CustomerMethod: MarginMethod
         if let Standing::Active = self.standing_over(paying) {
             return Err(Refusal::WrongStanding);
         }
-        if self.custody.held(box_number(paying, pocket, asset)) < units {
+        if self.custody.held(from.number()) < units {
             return Err(Refusal::TooFewUnits);
         }
-        let value = value_leaving(self, paying, pocket, asset, units);
+        let value = value_leaving(self, from, units);
         if is_seizure_barred(self, side, paying, pocket, paid, value) {
             return Err(Refusal::BeyondEntitlement);
         }

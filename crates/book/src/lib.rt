@@ -5,6 +5,7 @@ pub mod book;
 mod checks;
 mod limits;
 mod making;
+mod mark;
 mod moves;
 pub mod orders;
 mod reading;

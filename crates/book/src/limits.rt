@@ -1,17 +1,11 @@
 ghost use Rattle.std.specs.Prelude.{◌≡◌};
-ghost use Rattle.rules.specs.Sizes.{house as house_account};
 ghost use Rattle.rules.specs.Orders.{no_such_pocket, units_out_of_range, counts_out_of_range, amounts_out_of_range, counts_barred, wrong_side};
 
 use figures::withdrawals::customer_draws;
-use rules::sizes::{CONTRACTS, MOST_AMOUNT, MOST_COUNT, MOST_UNITS, PARTICIPANTS, POCKETS};
+use rules::accounts::is_house;
+use rules::row::{Declared, Lots};
+use rules::sizes::{CONTRACTS, MOST_AMOUNT, MOST_COUNT, MOST_UNITS, POCKETS};
 use rules::standing::Standing;
-
-/// Whether an account is a participant's own.
-pub(crate) fn is_house(account: u16) -> bool
-    ensures { result ≡ house_account account }
-{
-    account < PARTICIPANTS as u16
-}
 
 /// Whether an account has no such pocket: a house account has the direct one only.
 pub(crate) fn no_such_pocket(account: u16, pocket: u8) -> bool
@@ -28,42 +22,31 @@ pub(crate) fn units_out_of_range(units: u64) -> bool
 }
 
 /// Whether there is no such contract, or a count is above its limit.
-pub(crate) fn counts_out_of_range(contract: u8, long: u32, short: u32) -> bool
-    ensures { result ≡ counts_out_of_range contract long short }
+pub(crate) fn counts_out_of_range(contract: u8, new: Lots) -> bool
+    ensures { result ≡ counts_out_of_range contract new }
 {
-    contract as usize >= CONTRACTS || long > MOST_COUNT || short > MOST_COUNT
+    contract as usize >= CONTRACTS || new.long > MOST_COUNT || new.short > MOST_COUNT
 }
 
 /// Whether a participant's standing bars other counts: a settled one's do not change, a suspended one's do not rise.
-pub(crate) fn counts_barred(
-    standing: Standing,
-    old_long: u32,
-    old_short: u32,
-    long: u32,
-    short: u32,
-) -> bool
-    ensures { result ≡ counts_barred standing old_long old_short long short }
+pub(crate) fn counts_barred(standing: Standing, old: Lots, new: Lots) -> bool
+    ensures { result ≡ counts_barred standing old new }
 {
     match standing {
         Standing::Active => false,
-        Standing::Suspended => long > old_long || short > old_short,
+        Standing::Suspended => new.long > old.long || new.short > old.short,
         Standing::Settled => true,
     }
 }
 
 /// Whether the row of an account may not hold these amounts.
-pub(crate) fn amounts_out_of_range(
-    account: u16,
-    customer_margin: u64,
-    customer_debt: u64,
-    participant_debt: u64,
-) -> bool
-    ensures { result ≡ amounts_out_of_range account customer_margin customer_debt participant_debt }
+pub(crate) fn amounts_out_of_range(account: u16, new: Declared) -> bool
+    ensures { result ≡ amounts_out_of_range account new }
 {
-    customer_margin > MOST_AMOUNT
-        || customer_debt > MOST_AMOUNT
-        || participant_debt > MOST_AMOUNT
-        || is_house(account) && (customer_margin != 0 || customer_debt != 0)
+    new.customer_margin > MOST_AMOUNT
+        || new.customer_debt > MOST_AMOUNT
+        || new.participant_debt > MOST_AMOUNT
+        || is_house(account) && (new.customer_margin != 0 || new.customer_debt != 0)
 }
 
 /// Whether an account may not pay for another on this side of a seizure: on side 0 a customer account pays for itself,

@@ -4,10 +4,11 @@ ghost use Rattle.rules.specs.Orders.{with_held};
 ghost use Rattle.custody.specs.Boxes.{Boxes};
 ghost use Rattle.book.specs.States.{rows_of, state_of};
 
+use crate::mark::{UNMARKED, YEN};
 use crate::records::Records;
 use crate::table::AccountTable;
 use rules::row::AccountRow;
-use rules::sizes::{ACCOUNTS_LEN, MOST_HAIRCUT, PARTICIPANTS_LEN};
+use rules::sizes::{ACCOUNTS_LEN, PARTICIPANTS_LEN};
 use rules::standing::Standing;
 
 impl AccountTable {
@@ -30,8 +31,7 @@ impl Records {
             table: AccountTable::empty(),
             opened: [None; ACCOUNTS_LEN],
             standings: [Standing::Active; PARTICIPANTS_LEN],
-            prices: [1, 0, 0, 0],
-            haircuts: [0, MOST_HAIRCUT, MOST_HAIRCUT, MOST_HAIRCUT],
+            marks: [YEN, UNMARKED, UNMARKED, UNMARKED],
         }
     }
 }

@@ -12,6 +12,5 @@ pub(crate) fn take_out<Custody: Custodian>(
 ) -> Result<(), Refusal>
     ensures { (result, Custody.Custodian.boxes custody.new) ≡ take_out (Custody.Custodian.boxes custody.old) box_number units }
 {
-    custody.take(box_number, units)?;
-    Ok(())
+    Ok(custody.take(box_number, units)?)
 }

@@ -3,12 +3,11 @@ ghost use Rattle.book.specs.States.{state_of};
 ghost use Rattle.book.specs.BookLaws.{bounded};
 
 use crate::book::Book;
-use crate::limits::is_house;
 use custody::custodian::Custodian;
 use figures::ledger::Ledger;
 use margin::method::MarginMethod;
+use rules::accounts::is_house;
 use rules::row::AccountRow;
-use rules::sizes::MOST_HAIRCUT;
 
 impl<Custody: Custodian, HouseMethod: MarginMethod, CustomerMethod: MarginMethod> Ledger
     for Book<Custody, HouseMethod, CustomerMethod> {
@@ -26,24 +25,15 @@ impl<Custody: Custodian, HouseMethod: MarginMethod, CustomerMethod: MarginMethod
         if is_house(account) {
             return Some(account as u8);
         }
-        match self.records.opened.get(account as usize) {
-            Some(owner) => *owner,
-            None => None,
-        }
+        self.records.opened.get(account as usize).copied().flatten()
     }
 
     fn price(&self, asset: u8) -> u32 {
-        match self.records.prices.get(asset as usize) {
-            Some(price) => *price,
-            None => 0,
-        }
+        self.records.mark(asset).price
     }
 
     fn haircut(&self, asset: u8) -> u16 {
-        match self.records.haircuts.get(asset as usize) {
-            Some(haircut) => *haircut,
-            None => MOST_HAIRCUT,
-        }
+        self.records.mark(asset).haircut
     }
 
     fn units(&self, box_number: usize) -> u64 {

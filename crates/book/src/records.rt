@@ -1,5 +1,7 @@
-ghost use Rattle.book.specs.Tables.{Priced, Cut};
+ghost use Rattle.std.specs.Prelude.{◌≡◌};
+ghost use Rattle.book.specs.Tables.{Priced, Cut, mark_of};
 
+use crate::mark::{Mark, UNMARKED};
 use crate::table::AccountTable;
 use rules::sizes::{ACCOUNTS_LEN, ASSETS_LEN, PARTICIPANTS_LEN};
 use rules::standing::Standing;
@@ -13,10 +15,17 @@ pub(crate) struct Records {
     pub(crate) opened: [Option<u8>; ACCOUNTS_LEN],
     /// The standing of each participant.
     pub(crate) standings: [Standing; PARTICIPANTS_LEN],
-    /// The price of each asset.
-    pub(crate) prices: [u32; ASSETS_LEN],
-    /// The haircut of each asset, in thousandths.
-    pub(crate) haircuts: [u16; ASSETS_LEN],
-    ghost priced: { Priced prices },
-    ghost cut: { Cut haircuts },
+    /// What each asset is marked at.
+    pub(crate) marks: [Mark; ASSETS_LEN],
+    ghost priced: { Priced marks },
+    ghost cut: { Cut marks },
+}
+
+impl Records {
+    /// What an asset is marked at; worth nothing for an asset that there is not.
+    pub(crate) fn mark(&self, asset: u8) -> Mark
+        ensures { result ≡ mark_of self.now.marks asset }
+    {
+        self.marks.get(asset as usize).copied().unwrap_or(UNMARKED)
+    }
 }

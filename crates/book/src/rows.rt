@@ -1,42 +1,35 @@
 ghost use Rattle.std.specs.Prelude.{◌≡◌, ◌<◌, false};
+ghost use Rattle.std.specs.Fn.{FnOnceReturnsAtMut};
+ghost use Rattle.rules.specs.declared.row.AccountRow.{AccountRow as Row};
+ghost use Rattle.rules.specs.States.{RowAllowed};
 ghost use Rattle.rules.specs.Sizes.{accounts, contracts, put};
 ghost use Rattle.rules.specs.Orders.{positioned_row, declared_row, paid_row, counts_out_of_range, amounts_out_of_range};
 ghost use Rattle.book.specs.States.{rows_of};
 
 use crate::table::AccountTable;
 use margin::counts::BoundedCounts;
-use rules::row::AccountRow;
+use rules::row::{AccountRow, Declared, Lots};
 
 /// Writes the row whole: other counts of one contract, all else the same.
-fn position_row(row: &mut AccountRow, contract: u8, long: u32, short: u32)
+fn position_row(row: &mut AccountRow, contract: u8, new: Lots)
     requires { contract < contracts }
-    ensures { row.new ≡ positioned_row row.old contract long short }
+    ensures { row.new ≡ positioned_row row.old contract new }
 {
     let mut counts = row.counts;
-    counts.long[contract as usize] = long;
-    counts.short[contract as usize] = short;
+    counts.each[contract as usize] = new;
     *row = AccountRow {
         counts,
-        customer_margin: row.customer_margin,
-        customer_debt: row.customer_debt,
-        participant_debt: row.participant_debt,
+        declared: row.declared,
     };
 }
 
 /// Writes the row whole: other amounts, the same counts.
-fn declare_row(
-    row: &mut AccountRow,
-    customer_margin: u64,
-    customer_debt: u64,
-    participant_debt: u64,
-)
-    ensures { row.new ≡ declared_row row.old customer_margin customer_debt participant_debt }
+fn declare_row(row: &mut AccountRow, new: Declared)
+    ensures { row.new ≡ declared_row row.old new }
 {
     *row = AccountRow {
         counts: row.counts,
-        customer_margin,
-        customer_debt,
-        participant_debt,
+        declared: new,
     };
 }
 
@@ -48,12 +41,23 @@ fn pay_row(row: &mut AccountRow, side: u8, pocket: u8, value: u64)
     let for_itself = if side == 0 { value } else { 0 };
     let replaced = if side == 0 && pocket == 1 { value } else { 0 };
     let counts = row.counts;
+    let old = row.declared;
     *row = AccountRow {
         counts,
-        customer_margin: row.customer_margin.saturating_sub(replaced),
-        customer_debt: row.customer_debt.saturating_sub(for_itself),
-        participant_debt: row.participant_debt.saturating_sub(value),
+        declared: Declared {
+            customer_margin: old.customer_margin.saturating_sub(replaced),
+            customer_debt: old.customer_debt.saturating_sub(for_itself),
+            participant_debt: old.participant_debt.saturating_sub(value),
+        },
     };
+}
+
+/// Lends a row to a row function.
+fn lend<F: FnOnce(&mut AccountRow)>(row: &mut AccountRow, function: F)
+    requires { F.IsAlwaysCallable function }
+    ensures { FnOnceReturnsAtMut F.FnOnce function row.old tt row.new }
+{
+    function(row);
 }
 
 impl AccountTable {
@@ -61,10 +65,10 @@ impl AccountTable {
     pub(crate) fn row(&self, account: u16) -> AccountRow
         ensures { result ≡ rows_of self.now account }
     {
-        match self.rows.get(account as usize) {
-            Some(row) => *row,
-            None => AccountRow::empty(),
-        }
+        self.rows
+            .get(account as usize)
+            .copied()
+            .unwrap_or(AccountRow::empty())
     }
 
     /// The counts of an account, which are within their limits.
@@ -76,33 +80,32 @@ impl AccountTable {
         }
     }
 
-    /// Sets both counts of a contract of one account, by lending out its row; all other rows stay as they are.
-    pub(crate) fn position(&mut self, account: u16, contract: u8, long: u32, short: u32)
+    /// Lends the row of an account to a row function; all other rows stay as they are.
+    fn write<F: FnOnce(&mut AccountRow)>(&mut self, account: u16, function: F)
         requires account { account < accounts }
-        requires counts { counts_out_of_range contract long short ≡ false }
-        ensures { rows_of self.new ≡ put (rows_of self.old) account (positioned_row (rows_of self.old account) contract long short) }
+        requires callable { F.IsAlwaysCallable function }
+        requires allowed { (old new : Row) → RowAllowed account old → FnOnceReturnsAtMut F.FnOnce function old tt new → RowAllowed account new }
+        ensures { (f : Row → Row) → ((old new : Row) → FnOnceReturnsAtMut F.FnOnce function old tt new → new ≡ f old) → rows_of self.new ≡ put (rows_of self.old) account (f (rows_of self.old account)) }
     {
-        position_row(&mut self.rows[account as usize], contract, long, short);
+        lend(&mut self.rows[account as usize], function);
+    }
+
+    /// Sets both counts of a contract of one account, by lending out its row; all other rows stay as they are.
+    pub(crate) fn position(&mut self, account: u16, contract: u8, new: Lots)
+        requires account { account < accounts }
+        requires counts { counts_out_of_range contract new ≡ false }
+        ensures { rows_of self.new ≡ put (rows_of self.old) account (positioned_row (rows_of self.old account) contract new) }
+    {
+        self.write(account, |row| position_row(row, contract, new));
     }
 
     /// Sets the amounts of one account, by lending out its row; all other rows stay as they are.
-    pub(crate) fn declare(
-        &mut self,
-        account: u16,
-        customer_margin: u64,
-        customer_debt: u64,
-        participant_debt: u64,
-    )
+    pub(crate) fn declare(&mut self, account: u16, new: Declared)
         requires account { account < accounts }
-        requires amounts { amounts_out_of_range account customer_margin customer_debt participant_debt ≡ false }
-        ensures { rows_of self.new ≡ put (rows_of self.old) account (declared_row (rows_of self.old account) customer_margin customer_debt participant_debt) }
+        requires amounts { amounts_out_of_range account new ≡ false }
+        ensures { rows_of self.new ≡ put (rows_of self.old) account (declared_row (rows_of self.old account) new) }
     {
-        declare_row(
-            &mut self.rows[account as usize],
-            customer_margin,
-            customer_debt,
-            participant_debt,
-        );
+        self.write(account, |row| declare_row(row, new));
     }
 
     /// Takes a seized value off the debts of one account, by lending out its row; all other rows stay as they are.
@@ -110,6 +113,6 @@ impl AccountTable {
         requires { account < accounts }
         ensures { rows_of self.new ≡ put (rows_of self.old) account (paid_row side pocket value (rows_of self.old account)) }
     {
-        pay_row(&mut self.rows[account as usize], side, pocket, value);
+        self.write(account, |row| pay_row(row, side, pocket, value));
     }
 }

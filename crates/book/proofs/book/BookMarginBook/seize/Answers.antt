@@ -41,7 +41,7 @@ returns-in_err-take_out g c =
     let order = seize a.side a.paying a.pocket a.asset a.paid a.units in
     let checked = sym c.check_seizure.ensures ∙ c.in_ok-value.was in
     let enough = (answered_passed _ _ (tests T s order) checked).1.1.1.1.1.1.0 in
-    let gone = took boxes (g.Custody.Custodian.boxes c.take_out.new.custody) _ (box a.paying a.pocket a.asset) a.units _ c.take_out.ensures c.box_number.ensures enough in
+    let gone = took boxes (g.Custody.Custodian.boxes c.take_out.new.custody) _ (box a.paying a.pocket a.asset) a.units _ c.take_out.ensures c.number.ensures enough in
     absurd (not_both _ _ (ap (λ (out : Outcome × Boxes). out.0) gone) c.in_err-take_out.was)
 
 pub pay-requires : goal.pay-requires
@@ -66,7 +66,7 @@ returns g c =
     let order = seize a.side a.paying a.pocket a.asset a.paid a.units in
     let checked = sym c.check_seizure.ensures ∙ c.in_ok-value.was in
     let enough = (answered_passed _ _ (tests T s order) checked).1.1.1.1.1.1.0 in
-    let gone = took boxes (g.Custody.Custodian.boxes c.take_out.new.custody) _ (box a.paying a.pocket a.asset) a.units _ c.take_out.ensures c.box_number.ensures enough in
+    let gone = took boxes (g.Custody.Custodian.boxes c.take_out.new.custody) _ (box a.paying a.pocket a.asset) a.units _ c.take_out.ensures c.number.ensures enough in
     let paid = c.pay.ensures ∙ ap (λ (v : ℕ). put s.rows a.paid (paid_row a.side a.pocket v (s.rows a.paid))) (answered_value _ _ (tests T s order) checked) in
     record {
       step = ap₂ (λ (rows : ℕ → AccountRow) (held : ℕ → ℕ). (Ok tt, with_both s rows held)) paid (ap (λ (out : Outcome × Boxes). out.1.held) gone) ∙ sym (decided_accepted _ s (effect s order) (tests T s order) _ checked);

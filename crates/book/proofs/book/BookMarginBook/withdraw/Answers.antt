@@ -34,7 +34,7 @@ returns g c =
     let order = withdraw a.account a.pocket a.asset a.units in
     let checked = sym c.check_withdrawal.ensures ∙ c.in_ok-check_withdrawal.was in
     let enough = (answered_passed tt _ (tests T s order) checked).1.1.1.1.1.0 in
-    let gone = took boxes (g.Custody.Custodian.boxes c.take_out.new.custody) _ (box a.account a.pocket a.asset) a.units _ c.take_out.ensures c.box_number.ensures enough in
+    let gone = took boxes (g.Custody.Custodian.boxes c.take_out.new.custody) _ (box a.account a.pocket a.asset) a.units _ c.take_out.ensures c.number.ensures enough in
     record {
       step = ap (λ (out : Outcome × Boxes). (out.0, with_held s out.1.held)) gone ∙ sym (decided_accepted tt s (effect s order) (tests T s order) _ checked);
       same = ap (λ (out : Outcome × Boxes). terms_of out.1 house customers) gone;

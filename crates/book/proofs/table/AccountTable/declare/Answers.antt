@@ -1,38 +1,21 @@
-use Rattle.std.proofs.Common.{◌≡◌, ℕ, ◌<◌, ◌≤◌, false, length, arith, rules}
+use Rattle.std.proofs.Common.{◌≡◌, ℕ, ◌<◌, ◌≤◌, false, arith, sym, subst, rules}
 use Rattle.std.proofs.lemmas.Bool.Decides.{nat_tests}
-use Rattle.rules.specs.declared.row.AccountRow.{AccountRow}
+use Rattle.rules.specs.declared.row.Declared.{Declared}
 use Rattle.rules.specs.Sizes.{participants, most_amount}
 use Rattle.rules.specs.States.{RowAllowed}
 use Rattle.rules.specs.Orders.{declared_row, amounts_out_of_range}
-use Rattle.book.specs.States.{rows_of}
-use Rattle.book.proofs.Writes.{rows_written, table_kept}
 use Rattle.book.proofs.table.AccountTable.declare.Goals as goal
 
 -- what amounts that are not out of range keep to
-affordable : (a m c p : ℕ) → amounts_out_of_range a m c p ≡ false → (m ≤ most_amount) × (c ≤ most_amount) × (p ≤ most_amount)
-affordable a m c p e = grind (arith, nat_tests)
+affordable : (a : ℕ) (new : Declared) → amounts_out_of_range a new ≡ false → (new.customer_margin ≤ most_amount) × (new.customer_debt ≤ most_amount) × (new.participant_debt ≤ most_amount)
+affordable a new e = grind (arith, nat_tests)
 
-customerless : (a m c p : ℕ) → amounts_out_of_range a m c p ≡ false → a < participants → (m ≡ 0) × (c ≡ 0)
-customerless a m c p e h = grind (arith, nat_tests)
+customerless : (a : ℕ) (new : Declared) → amounts_out_of_range a new ≡ false → a < participants → (new.customer_margin ≡ 0) × (new.customer_debt ≡ 0)
+customerless a new e h = grind (arith, nat_tests)
 
-pub invariant_of-self : goal.invariant_of-self
-invariant_of-self c =
-    let t = c.args.self.now in
-    let a = c.args in
-    let l : a.account < length t.rows = search rules in
-    let row : AccountRow → AccountRow = λ r. declared_row r a.customer_margin a.customer_debt a.participant_debt in
-    let allowed : RowAllowed a.account _ = record {
-      counts = t.countable a.account;
-      amounts = affordable a.account a.customer_margin a.customer_debt a.participant_debt c.requires.amounts;
-      house_row = customerless a.account a.customer_margin a.customer_debt a.participant_debt c.requires.amounts;
-    } in
-    let kept = table_kept t.rows a.account row _ _ l c.declare_row.ensures t.countable t.affordable t.customerless allowed in
-    record { countable = kept.0; affordable = kept.1.0; customerless = kept.1.1.0 }
+pub write-requires-clause-allowed : goal.write-requires-clause-allowed
+write-requires-clause-allowed c = λ old new h e. let row : new ≡ declared_row old c.args.new = search rules in
+    subst (RowAllowed c.args.account) (sym row) (record { counts = h.counts; amounts = affordable c.args.account c.args.new c.requires.amounts; house_row = customerless c.args.account c.args.new c.requires.amounts })
 
 pub returns : goal.returns
-unfolding rows_of
-returns c =
-    let t = c.args.self.now in
-    let a = c.args in
-    let l : a.account < length t.rows = search rules in
-    rows_written t.rows a.account (λ r. declared_row r a.customer_margin a.customer_debt a.participant_debt) _ _ l c.declare_row.ensures
+returns c = c.write.ensures (λ row. declared_row row c.args.new) (λ old new e. search rules)
