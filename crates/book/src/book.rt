@@ -18,6 +18,7 @@ use figures::lots::open_lots;
 use figures::owners::participant_over;
 use margin::method::MarginMethod;
 use rules::accounts::is_house;
+use rules::asset::Asset;
 use rules::boxes::DepositBox;
 use rules::refusal::Refusal;
 use rules::row::{Declared, Lots};
@@ -90,10 +91,7 @@ impl<Custody: Custodian, HouseMethod: MarginMethod, CustomerMethod: MarginMethod
     ghost laws = { λ book. lawful Custody.Custodian.boxes Custody.Custodian.laws book.custody (HouseMethod.MarginMethod.amount book.house) (CustomerMethod.MarginMethod.amount book.customers) (HouseMethod.MarginMethod.laws book.house) (CustomerMethod.MarginMethod.laws book.customers) };
 
     fn open(&mut self, account: u16, participant: u8) -> Result<(), Refusal> {
-        if is_house(account) || account >= ACCOUNTS {
-            return Err(Refusal::WrongAccount);
-        }
-        if let Some(_) = self.records.opened[account as usize] {
+        if is_house(account) || account >= ACCOUNTS || self.owner(account).is_some() {
             return Err(Refusal::WrongAccount);
         }
         if participant >= PARTICIPANTS {
@@ -107,7 +105,7 @@ impl<Custody: Custodian, HouseMethod: MarginMethod, CustomerMethod: MarginMethod
     }
 
     fn mark(&mut self, asset: u8, price: u32, haircut: u16) -> Result<(), Refusal> {
-        if asset == 0 || asset >= ASSETS {
+        if asset == Asset::Yen as u8 || asset >= ASSETS {
             return Err(Refusal::WrongAsset);
         }
         if price > MOST_PRICE || haircut > MOST_HAIRCUT {

@@ -3,7 +3,9 @@ ghost use Rattle.rules.specs.Orders.{no_such_pocket, units_out_of_range, counts_
 
 use figures::withdrawals::customer_draws;
 use rules::accounts::is_house;
+use rules::pocket::Pocket;
 use rules::row::{Declared, Lots};
+use rules::side::Side;
 use rules::sizes::{CONTRACTS, MOST_AMOUNT, MOST_COUNT, MOST_UNITS, POCKETS};
 use rules::standing::Standing;
 
@@ -11,7 +13,7 @@ use rules::standing::Standing;
 pub(crate) fn no_such_pocket(account: u16, pocket: u8) -> bool
     ensures { result ≡ no_such_pocket account pocket }
 {
-    pocket >= POCKETS || is_house(account) && pocket != 0
+    pocket >= POCKETS || is_house(account) && pocket != Pocket::Direct as u8
 }
 
 /// Whether no order may move so many units.
@@ -54,9 +56,9 @@ pub(crate) fn amounts_out_of_range(account: u16, new: Declared) -> bool
 pub(crate) fn wrong_side(side: u8, paying: u16, pocket: u8, paid: u16) -> bool
     ensures { result ≡ wrong_side side paying pocket paid }
 {
-    match side {
-        0 => is_house(paying) || paying != paid,
-        1 => customer_draws(paying, pocket),
-        _ => true,
+    match Side::try_from(side) {
+        Ok(Side::Itself) => is_house(paying) || paying != paid,
+        Ok(Side::Pool) => customer_draws(paying, pocket),
+        Err(_) => true,
     }
 }

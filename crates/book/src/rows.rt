@@ -8,7 +8,9 @@ ghost use Rattle.book.specs.States.{rows_of};
 
 use crate::table::AccountTable;
 use margin::counts::BoundedCounts;
+use rules::pocket::Pocket;
 use rules::row::{AccountRow, Declared, Lots};
+use rules::side::Side;
 
 /// Writes the row whole: other counts of one contract, all else the same.
 fn position_row(row: &mut AccountRow, contract: u8, new: Lots)
@@ -38,8 +40,13 @@ fn declare_row(row: &mut AccountRow, new: Declared)
 fn pay_row(row: &mut AccountRow, side: u8, pocket: u8, value: u64)
     ensures { row.new ≡ paid_row side pocket value row.old }
 {
-    let for_itself = if side == 0 { value } else { 0 };
-    let replaced = if side == 0 && pocket == 1 { value } else { 0 };
+    let itself = side == Side::Itself as u8;
+    let for_itself = if itself { value } else { 0 };
+    let replaced = if itself && pocket == Pocket::Replacement as u8 {
+        value
+    } else {
+        0
+    };
     let counts = row.counts;
     let old = row.declared;
     *row = AccountRow {

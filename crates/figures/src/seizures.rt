@@ -10,6 +10,8 @@ use crate::pool::kept_from_pool;
 use crate::shares::{customer_shares, excess_value, replaced_value};
 use crate::values::box_value;
 use rules::boxes::DepositBox;
+use rules::pocket::Pocket;
+use rules::side::Side;
 use rules::sizes::ASSETS;
 
 /// The market value that leaves a box with some units: what the box is worth before, less what it is worth after.
@@ -40,11 +42,11 @@ pub fn is_seizure_barred<L: Ledger>(
     if value == 0 {
         return true;
     }
-    if side == 0 {
+    if side == Side::Itself as u8 {
         return customer_shares(ledger, paying).kept < value
-            || pocket == 1 && replaced_value(ledger, paying) < value;
+            || pocket == Pocket::Replacement as u8 && replaced_value(ledger, paying) < value;
     }
     kept_from_pool(ledger, participant_over(ledger, paying)) < value
         || account_parts(ledger, paid).charge < value
-        || pocket == 1 && excess_value(ledger, paying) < value
+        || pocket == Pocket::Replacement as u8 && excess_value(ledger, paying) < value
 }

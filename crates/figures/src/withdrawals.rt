@@ -17,7 +17,7 @@ use rules::pocket::Pocket;
 pub fn customer_draws(account: u16, pocket: u8) -> bool
     ensures { result ≡ customer_draws account pocket }
 {
-    !is_house(account) && pocket == 0
+    !is_house(account) && pocket == Pocket::Direct as u8
 }
 
 /// Whether a quantity that has fallen covers less of a bound than it did.
@@ -48,7 +48,7 @@ pub fn is_withdrawal_barred<L: Ledger>(ledger: &L, place: DepositBox, units: u64
             row.declared.customer_debt,
         );
     }
-    if pocket == 1 {
+    if pocket == Pocket::Replacement as u8 {
         let (left, held) = (
             pocket_value(&after, account, Pocket::Replacement),
             pocket_value(ledger, account, Pocket::Replacement),

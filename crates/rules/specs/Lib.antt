@@ -1,6 +1,7 @@
 pub mod Sizes
 pub mod Pockets
 pub mod Assets
+pub mod Sides
 pub mod Refusals
 pub mod Wordings
 pub mod Values

@@ -19,8 +19,8 @@ pub loop-account-preserved : goal.loop-account-preserved
 loop-account-preserved g c =
     let s = g.L.Ledger.state c.args.ledger.now in
     elim c.if-is_under.branch [
-      then-is_under w ↦
-        rw w.sums-is (w.with-sums.ensures ∙ parts_added s c.args.participant _ _ c.loop-account.invariant _ w.account_parts.ensures (sym c.is_under.ensures ∙ w.if-is_under.true))
+      | then-is_under w ↦
+          rw w.sums-is (w.with-sums.ensures ∙ parts_added s c.args.participant _ _ c.loop-account.invariant _ w.account_parts.ensures (sym c.is_under.ensures ∙ w.if-is_under.true))
       | else-is_under w ↦ rw w.sums-is (parts_passed s c.args.participant _ _ c.loop-account.invariant (sym c.is_under.ensures ∙ w.if-is_under.false))
     ]
 
