@@ -27,7 +27,7 @@ pub record Witnesses : Type 0 where
   -- two histories with the same accepted marks and calls for account 8, after which the participant's debt on it
   -- differs: one share of two is worth 2 yen, one of three 1 yen
   pub premise : accepted_for 8 (history ample made (share_seized 2)) ≡ accepted_for 8 (history ample made (share_seized 3))
-  pub debts_differ : (((outcome (share_seized 2)).rows 8).participant_debt ≡ 8) × (((outcome (share_seized 3)).rows 8).participant_debt ≡ 9)
+  pub debts_differ : (((outcome (share_seized 2)).rows 8).declared.participant_debt ≡ 8) × (((outcome (share_seized 3)).rows 8).declared.participant_debt ≡ 9)
   -- 40 yen may leave the replacement pocket, and 41 may not
   pub to_the_yen : (answer ample (outcome both_sides) (withdraw 8 1 0 40) ≡ 0) × (answer ample (outcome both_sides) (withdraw 8 1 0 41) ≡ 14)
   -- under suspension no count rises, and there is no settlement before all are 0

@@ -4,7 +4,7 @@ use Rattle.rules.specs.declared.row.Counts.{Counts}
 use Rattle.rules.specs.declared.row.AccountRow.{AccountRow}
 use Rattle.rules.specs.Values.{market, applied}
 use Rattle.rules.specs.Claims.{own_pool_of, withheld_of, claim_of, kept_of, rest_of}
-use Rattle.rules.specs.States.{flat}
+use Rattle.rules.specs.States.{lots, amounts, flat}
 use Rattle.rules.specs.Figures.{ask_customer, ask_participant}
 use Rattle.margin.specs.Rates.{net_amount, gross_amount}
 use Rattle.margin.specs.Losses.{worst_loss}
@@ -12,11 +12,11 @@ use Rattle.examples.specs.Histories.{outcome, both_sides}
 
 -- a row with debts and nothing else
 abbrev owing : (customer_debt participant_debt : ℕ) → AccountRow
-owing customer_debt participant_debt = record { counts = flat; customer_margin = 0; customer_debt = customer_debt; participant_debt = participant_debt }
+owing customer_debt participant_debt = record { counts = flat; declared = amounts 0 customer_debt participant_debt }
 
 -- counts of contract 0 and of no other, and a rate for all contracts
 abbrev first_contract : (long short : ℕ) → Counts
-first_contract long short = record { long = long ∷ replicate 7 0; short = short ∷ replicate 7 0 }
+first_contract long short = record { each = lots long short ∷ replicate 7 (lots 0 0) }
 
 abbrev all_at : ℕ → List ℕ
 all_at rate = replicate 8 rate

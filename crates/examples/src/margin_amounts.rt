@@ -6,16 +6,15 @@ mod tests {
     use margin::net::NetMargin;
     use margin::scenarios::WorstLossMargin;
     use rules::refusal::Refusal;
-    use rules::row::Counts;
+    use rules::row::{Counts, Lots};
     use std::process::Abort;
     use std::test::Fail;
 
     // Counts of contract 0, and of no other.
     fn first_contract(long: u32, short: u32) -> Result<BoundedCounts, Refusal> {
-        BoundedCounts::new(Counts {
-            long: [long, 0, 0, 0, 0, 0, 0, 0],
-            short: [short, 0, 0, 0, 0, 0, 0, 0],
-        })
+        let mut each = [Lots { long: 0, short: 0 }; 8];
+        each[0] = Lots { long, short };
+        BoundedCounts::new(Counts { each })
     }
 
     // What a method asks for five long and three short lots, for three and five, and for none.
@@ -52,12 +51,16 @@ mod tests {
     #[test]
     fn largest_amounts(rt: HostRuntime) -> Result<(), Fail> {
         let long = BoundedCounts::new(Counts {
-            long: [1_000_000; 8],
-            short: [0; 8],
+            each: [Lots {
+                long: 1_000_000,
+                short: 0,
+            }; 8],
         })?;
         let both = BoundedCounts::new(Counts {
-            long: [1_000_000; 8],
-            short: [1_000_000; 8],
+            each: [Lots {
+                long: 1_000_000,
+                short: 1_000_000,
+            }; 8],
         })?;
         let net = NetMargin::new([u32::MAX; 8]);
         let gross = GrossMargin::new([10_000_001; 8]);
