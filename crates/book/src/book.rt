@@ -22,6 +22,7 @@ use rules::asset::Asset;
 use rules::boxes::DepositBox;
 use rules::refusal::Refusal;
 use rules::row::{Declared, Lots};
+use rules::seizure::Seizure;
 use rules::sizes::{ACCOUNTS, ASSETS, BOXES, MOST_HAIRCUT, MOST_PRICE, PARTICIPANTS};
 use rules::standing::{DefaultEvent, Standing};
 
@@ -220,13 +221,18 @@ impl<Custody: Custodian, HouseMethod: MarginMethod, CustomerMethod: MarginMethod
         paid: u16,
         units: u64,
     ) -> Result<(), Refusal> {
-        let place = DepositBox {
+        let from = DepositBox {
             account: paying,
             pocket,
             asset,
         };
-        let value = self.check_seizure(side, place, paid, units)?;
-        take_out(&mut self.custody, place.number(), units)?;
+        let value = self.check_seizure(Seizure {
+            side,
+            from,
+            units,
+            paid,
+        })?;
+        take_out(&mut self.custody, from.number(), units)?;
         self.records.table.pay(paid, side, pocket, value);
         Ok(())
     }

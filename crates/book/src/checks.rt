@@ -15,6 +15,7 @@ use margin::method::MarginMethod;
 use rules::accounts::is_house;
 use rules::boxes::DepositBox;
 use rules::refusal::Refusal;
+use rules::seizure::Seizure;
 use rules::sizes::ASSETS;
 use rules::standing::Standing;
 
@@ -74,15 +75,15 @@ impl<Custody: Custodian, HouseMethod: MarginMethod, CustomerMethod: MarginMethod
 
     /// Tries the refusals of a seizure in their order, and answers the market value that it would take out of the box.
     /// Nothing is taken before all have been tried.
-    pub(crate) fn check_seizure(
-        &self,
-        side: u8,
-        from: DepositBox,
-        paid: u16,
-        units: u64,
-    ) -> Result<u64, Refusal>
-        ensures { result ≡ answered (tests (terms_of (Custody.Custodian.boxes self.now.custody) (HouseMethod.MarginMethod.amount self.now.house) (CustomerMethod.MarginMethod.amount self.now.customers)) (state_of self.now.records (Custody.Custodian.boxes self.now.custody)) (seize side from.account from.pocket from.asset paid units)) (leaving (state_of self.now.records (Custody.Custodian.boxes self.now.custody)) (taken (state_of self.now.records (Custody.Custodian.boxes self.now.custody)) from.account from.pocket from.asset units) from.account from.pocket from.asset) }
+    pub(crate) fn check_seizure(&self, seizure: Seizure) -> Result<u64, Refusal>
+        ensures { result ≡ answered (tests (terms_of (Custody.Custodian.boxes self.now.custody) (HouseMethod.MarginMethod.amount self.now.house) (CustomerMethod.MarginMethod.amount self.now.customers)) (state_of self.now.records (Custody.Custodian.boxes self.now.custody)) (seize seizure.side seizure.from.account seizure.from.pocket seizure.from.asset seizure.paid seizure.units)) (leaving (state_of self.now.records (Custody.Custodian.boxes self.now.custody)) (taken (state_of self.now.records (Custody.Custodian.boxes self.now.custody)) seizure.from.account seizure.from.pocket seizure.from.asset seizure.units) seizure.from.account seizure.from.pocket seizure.from.asset) }
     {
+        let Seizure {
+            from,
+            units,
+            paid,
+            ..
+        } = seizure;
         let DepositBox {
             account: paying,
             pocket,
@@ -94,7 +95,7 @@ impl<Custody: Custodian, HouseMethod: MarginMethod, CustomerMethod: MarginMethod
         if participant_over(self, paying) != participant_over(self, paid) {
             return Err(Refusal::WrongParticipant);
         }
-        if no_such_pocket(paying, pocket) || wrong_side(side, paying, pocket, paid) {
+        if no_such_pocket(paying, pocket) || wrong_side(seizure) {
             return Err(Refusal::WrongPocket);
         }
         if asset >= ASSETS {
@@ -110,7 +111,7 @@ impl<Custody: Custodian, HouseMethod: MarginMethod, CustomerMethod: MarginMethod
             return Err(Refusal::TooFewUnits);
         }
         let value = value_leaving(self, from, units);
-        if is_seizure_barred(self, side, paying, pocket, paid, value) {
+        if is_seizure_barred(self, seizure, value) {
             return Err(Refusal::BeyondEntitlement);
         }
         Ok(value)

@@ -5,7 +5,7 @@ use figures::withdrawals::customer_draws;
 use rules::accounts::is_house;
 use rules::pocket::Pocket;
 use rules::row::{Declared, Lots};
-use rules::side::Side;
+use rules::seizure::{Seizure, Side};
 use rules::sizes::{CONTRACTS, MOST_AMOUNT, MOST_COUNT, MOST_UNITS, POCKETS};
 use rules::standing::Standing;
 
@@ -53,12 +53,13 @@ pub(crate) fn amounts_out_of_range(account: u16, new: Declared) -> bool
 
 /// Whether an account may not pay for another on this side of a seizure: on side 0 a customer account pays for itself,
 /// on side 1 a house pocket or a replacement pocket pays for any account of the participant.
-pub(crate) fn wrong_side(side: u8, paying: u16, pocket: u8, paid: u16) -> bool
-    ensures { result ≡ wrong_side side paying pocket paid }
+pub(crate) fn wrong_side(seizure: Seizure) -> bool
+    ensures { result ≡ wrong_side seizure.side seizure.from.account seizure.from.pocket seizure.paid }
 {
-    match Side::try_from(side) {
-        Ok(Side::Itself) => is_house(paying) || paying != paid,
-        Ok(Side::Pool) => customer_draws(paying, pocket),
+    let paying = seizure.from.account;
+    match Side::try_from(seizure.side) {
+        Ok(Side::Itself) => is_house(paying) || paying != seizure.paid,
+        Ok(Side::Pool) => customer_draws(paying, seizure.from.pocket),
         Err(_) => true,
     }
 }

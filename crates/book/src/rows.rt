@@ -10,7 +10,7 @@ use crate::table::AccountTable;
 use margin::counts::BoundedCounts;
 use rules::pocket::Pocket;
 use rules::row::{AccountRow, Declared, Lots};
-use rules::side::Side;
+use rules::seizure::Side;
 
 /// Writes the row whole: other counts of one contract, all else the same.
 fn position_row(row: &mut AccountRow, contract: u8, new: Lots)

@@ -11,7 +11,7 @@ use crate::shares::{customer_shares, excess_value, replaced_value};
 use crate::values::box_value;
 use rules::boxes::DepositBox;
 use rules::pocket::Pocket;
-use rules::side::Side;
+use rules::seizure::{Seizure, Side};
 use rules::sizes::ASSETS;
 
 /// The market value that leaves a box with some units: what the box is worth before, less what it is worth after.
@@ -29,24 +29,22 @@ pub fn value_leaving<L: Ledger>(ledger: &L, place: DepositBox, units: u64) -> u6
 /// Whether a value may not be seized: there is none, or it passes what the clearing house keeps of the paying account
 /// (side 0), or from the pool for the rest of the paid account's debt (side 1).
 #[tactic(auto, unfolding(rules::specs::Orders::seizure_barred))]
-pub fn is_seizure_barred<L: Ledger>(
-    ledger: &L,
-    side: u8,
-    paying: u16,
-    pocket: u8,
-    paid: u16,
-    value: u64,
-) -> bool
-    ensures { result ≡ seizure_barred (L.Ledger.state ledger.now) side paying pocket paid value }
+pub fn is_seizure_barred<L: Ledger>(ledger: &L, seizure: Seizure, value: u64) -> bool
+    ensures { result ≡ seizure_barred (L.Ledger.state ledger.now) seizure.side seizure.from.account seizure.from.pocket seizure.paid value }
 {
+    let DepositBox {
+        account: paying,
+        pocket,
+        ..
+    } = seizure.from;
     if value == 0 {
         return true;
     }
-    if side == Side::Itself as u8 {
+    if seizure.side == Side::Itself as u8 {
         return customer_shares(ledger, paying).kept < value
             || pocket == Pocket::Replacement as u8 && replaced_value(ledger, paying) < value;
     }
     kept_from_pool(ledger, participant_over(ledger, paying)) < value
-        || account_parts(ledger, paid).charge < value
+        || account_parts(ledger, seizure.paid).charge < value
         || pocket == Pocket::Replacement as u8 && excess_value(ledger, paying) < value
 }

@@ -3,8 +3,8 @@
 use Rattle.std.specs.Prelude.{◌≡◌, ℕ, ◌≤◌, Ok, Err, Result}
 use Rattle.rules.specs.declared.refusal.Refusal.{Refusal}
 use Rattle.rules.specs.declared.refusal.Refusal.TheVariants.{WrongPocket}
-use Rattle.rules.specs.declared.side.Side.{Side}
-use Rattle.rules.specs.declared.side.Side.TheVariants.{Itself, Pool}
+use Rattle.rules.specs.declared.seizure.Side.{Side}
+use Rattle.rules.specs.declared.seizure.Side.TheVariants.{Itself, Pool}
 
 -- the number by which orders know a side
 abbrev pub side_number : Side → ℕ

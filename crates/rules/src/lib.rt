@@ -9,7 +9,7 @@ pub mod law;
 pub mod pocket;
 pub mod refusal;
 pub mod row;
-pub mod side;
+pub mod seizure;
 pub mod sizes;
 pub mod standing;
 pub mod value;

@@ -1,5 +1,6 @@
 ghost use Rattle.rules.specs.Sides.{Names};
 
+use crate::boxes::DepositBox;
 use crate::refusal::Refusal;
 
 /// The sides of a seizure, in the order of their numbers: what pays.
@@ -24,4 +25,16 @@ impl TryFrom<u8> for Side {
             _ => Err(Refusal::WrongPocket),
         }
     }
+}
+
+/// A seizure as it is ordered, with any numbers: units taken out of a box of the paying account, for debts on the paid
+/// one.
+#[derive(Clone, Copy, PartialEq, Eq, Debug)]
+pub struct Seizure {
+    /// The number of a side.
+    pub side: u8,
+    pub from: DepositBox,
+    pub units: u64,
+    /// The account on which debts are paid.
+    pub paid: u16,
 }
