@@ -5,7 +5,7 @@ ghost use Rattle.book.specs.BookLaws.{lawful};
 ghost use Rattle.book.specs.Promise.{Promise};
 
 use crate::limits::{
-    amounts_out_of_range, counts_barred, counts_out_of_range, no_such_pocket, units_out_of_range,
+    amounts_out_of_range, check_units, counts_barred, counts_out_of_range, no_such_pocket,
 };
 use crate::mark::Mark;
 use crate::moves::take_out;
@@ -167,12 +167,7 @@ impl<Custody: Custodian, HouseMethod: MarginMethod, CustomerMethod: MarginMethod
         if no_such_pocket(account, pocket) {
             return Err(Refusal::WrongPocket);
         }
-        if asset >= ASSETS {
-            return Err(Refusal::WrongAsset);
-        }
-        if units_out_of_range(units) {
-            return Err(Refusal::OutOfRange);
-        }
+        check_units(asset, units)?;
         let place = DepositBox {
             account,
             pocket,

@@ -5,7 +5,7 @@ ghost use Rattle.rules.specs.Orders.{tests, taken, leaving, withdraw, seize};
 ghost use Rattle.book.specs.States.{state_of, terms_of};
 
 use crate::book::Book;
-use crate::limits::{no_such_pocket, units_out_of_range, wrong_side};
+use crate::limits::{check_units, no_such_pocket, wrong_side};
 use custody::custodian::Custodian;
 use figures::coverage::covering_after;
 use figures::owners::participant_over;
@@ -52,12 +52,7 @@ impl<Custody: Custodian, HouseMethod: MarginMethod, CustomerMethod: MarginMethod
         if no_such_pocket(account, pocket) {
             return Err(Refusal::WrongPocket);
         }
-        if asset >= ASSETS {
-            return Err(Refusal::WrongAsset);
-        }
-        if units_out_of_range(units) {
-            return Err(Refusal::OutOfRange);
-        }
+        check_units(asset, units)?;
         if let Standing::Suspended = self.standing_over(account) {
             return Err(Refusal::WrongStanding);
         }
@@ -98,12 +93,7 @@ impl<Custody: Custodian, HouseMethod: MarginMethod, CustomerMethod: MarginMethod
         if no_such_pocket(paying, pocket) || wrong_side(seizure) {
             return Err(Refusal::WrongPocket);
         }
-        if asset >= ASSETS {
-            return Err(Refusal::WrongAsset);
-        }
-        if units_out_of_range(units) {
-            return Err(Refusal::OutOfRange);
-        }
+        check_units(asset, units)?;
         if let Standing::Active = self.standing_over(paying) {
             return Err(Refusal::WrongStanding);
         }

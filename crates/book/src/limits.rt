@@ -1,12 +1,16 @@
-ghost use Rattle.std.specs.Prelude.{◌≡◌};
+ghost use Rattle.std.specs.Prelude.{◌≡◌, not, [], ◌∷◌, nat_lt};
+ghost use Rattle.rules.specs.declared.refusal.Refusal.TheVariants.{WrongAsset, OutOfRange};
+ghost use Rattle.rules.specs.Sizes.{assets};
+ghost use Rattle.rules.specs.Refusals.{answered};
 ghost use Rattle.rules.specs.Orders.{no_such_pocket, units_out_of_range, counts_out_of_range, amounts_out_of_range, counts_barred, wrong_side};
 
 use figures::withdrawals::customer_draws;
 use rules::accounts::is_house;
 use rules::pocket::Pocket;
+use rules::refusal::Refusal;
 use rules::row::{Declared, Lots};
 use rules::seizure::{Seizure, Side};
-use rules::sizes::{CONTRACTS, MOST_AMOUNT, MOST_COUNT, MOST_UNITS, POCKETS};
+use rules::sizes::{ASSETS, CONTRACTS, MOST_AMOUNT, MOST_COUNT, MOST_UNITS, POCKETS};
 use rules::standing::Standing;
 
 /// Whether an account has no such pocket: a house account has the direct one only.
@@ -17,10 +21,23 @@ pub(crate) fn no_such_pocket(account: u16, pocket: u8) -> bool
 }
 
 /// Whether no order may move so many units.
-pub(crate) fn units_out_of_range(units: u64) -> bool
+fn units_out_of_range(units: u64) -> bool
     ensures { result ≡ units_out_of_range units }
 {
     units == 0 || units > MOST_UNITS
+}
+
+/// Tries the two refusals that follow each other wherever units are moved: of the asset, and of the number of units.
+pub(crate) fn check_units(asset: u8, units: u64) -> Result<(), Refusal>
+    ensures { result ≡ answered ((WrongAsset, not (nat_lt asset assets)) ∷ ((OutOfRange, units_out_of_range units) ∷ [])) tt }
+{
+    if asset >= ASSETS {
+        return Err(Refusal::WrongAsset);
+    }
+    if units_out_of_range(units) {
+        return Err(Refusal::OutOfRange);
+    }
+    Ok(())
 }
 
 /// Whether there is no such contract, or a count is above its limit.
