@@ -161,18 +161,12 @@ impl<Custody: Custodian, HouseMethod: MarginMethod, CustomerMethod: MarginMethod
     }
 
     fn deposit(&mut self, account: u16, pocket: u8, asset: u8, units: u64) -> Result<(), Refusal> {
-        if !self.knows(account) {
-            return Err(Refusal::WrongAccount);
-        }
-        if no_such_pocket(account, pocket) {
-            return Err(Refusal::WrongPocket);
-        }
-        check_units(asset, units)?;
         let place = DepositBox {
             account,
             pocket,
             asset,
         };
+        self.check_box(place, units)?;
         Ok(self.custody.put(place.number(), units)?)
     }
 

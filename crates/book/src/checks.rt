@@ -1,7 +1,10 @@
-ghost use Rattle.std.specs.Prelude.{◌≡◌};
+ghost use Rattle.std.specs.Prelude.{◌≡◌, not, [], ◌∷◌, nat_lt};
+ghost use Rattle.rules.specs.declared.refusal.Refusal.TheVariants.{WrongAccount, WrongPocket, WrongAsset, OutOfRange};
+ghost use Rattle.rules.specs.Sizes.{assets};
+ghost use Rattle.rules.specs.States.{known};
 ghost use Rattle.rules.specs.Refusals.{answered};
 ghost use Rattle.rules.specs.Figures.{maintenance_amount};
-ghost use Rattle.rules.specs.Orders.{tests, taken, leaving, withdraw, seize};
+ghost use Rattle.rules.specs.Orders.{no_such_pocket, units_out_of_range, tests, taken, leaving, withdraw, seize};
 ghost use Rattle.book.specs.States.{state_of, terms_of};
 
 use crate::book::Book;
@@ -37,22 +40,26 @@ impl<Custody: Custodian, HouseMethod: MarginMethod, CustomerMethod: MarginMethod
         }
     }
 
+    /// Tries the refusals that a deposit and a withdrawal begin with, in their order: of the account, its pocket, the asset
+    /// and the units.
+    pub(crate) fn check_box(&self, place: DepositBox, units: u64) -> Result<(), Refusal>
+        ensures { result ≡ answered ((WrongAccount, not (known (state_of self.now.records (Custody.Custodian.boxes self.now.custody)) place.account)) ∷ ((WrongPocket, no_such_pocket place.account place.pocket) ∷ ((WrongAsset, not (nat_lt place.asset assets)) ∷ ((OutOfRange, units_out_of_range units) ∷ [])))) tt }
+    {
+        if !self.knows(place.account) {
+            return Err(Refusal::WrongAccount);
+        }
+        if no_such_pocket(place.account, place.pocket) {
+            return Err(Refusal::WrongPocket);
+        }
+        check_units(place.asset, units)
+    }
+
     /// Tries the refusals of a withdrawal in their order. Nothing is taken before all have been tried.
     pub(crate) fn check_withdrawal(&self, place: DepositBox, units: u64) -> Result<(), Refusal>
         ensures { result ≡ answered (tests (terms_of (Custody.Custodian.boxes self.now.custody) (HouseMethod.MarginMethod.amount self.now.house) (CustomerMethod.MarginMethod.amount self.now.customers)) (state_of self.now.records (Custody.Custodian.boxes self.now.custody)) (withdraw place.account place.pocket place.asset units)) tt }
     {
-        let DepositBox {
-            account,
-            pocket,
-            asset,
-        } = place;
-        if !self.knows(account) {
-            return Err(Refusal::WrongAccount);
-        }
-        if no_such_pocket(account, pocket) {
-            return Err(Refusal::WrongPocket);
-        }
-        check_units(asset, units)?;
+        self.check_box(place, units)?;
+        let account = place.account;
         if let Standing::Suspended = self.standing_over(account) {
             return Err(Refusal::WrongStanding);
         }
