@@ -1,4 +1,7 @@
-ghost use Rattle.std.specs.Prelude.{◌≡◌};
+ghost use Rattle.std.specs.Prelude.{◌≡◌, if◌then◌else◌, nat_lt, Err};
+ghost use Rattle.rules.specs.declared.refusal.Refusal.TheVariants.{WrongParticipant};
+ghost use Rattle.rules.specs.Sizes.{participants};
+ghost use Rattle.rules.specs.Standings.{next_standing};
 ghost use Rattle.rules.specs.States.{made, known, participant_of};
 ghost use Rattle.book.specs.States.{state_of, terms_of};
 ghost use Rattle.book.specs.BookLaws.{lawful};
@@ -66,6 +69,17 @@ impl<Custody: Custodian, HouseMethod: MarginMethod, CustomerMethod: MarginMethod
             .get(participant as usize)
             .copied()
             .unwrap_or(Standing::Active)
+    }
+
+    /// Where an event leads a participant; refuses a participant that there is not, and an event that cannot happen to
+    /// it where it stands.
+    fn next_standing(&self, participant: u8, event: DefaultEvent) -> Result<Standing, Refusal>
+        ensures { result ≡ (if nat_lt participant participants then next_standing ((state_of self.now.records (Custody.Custodian.boxes self.now.custody)).standing participant) event else Err WrongParticipant) }
+    {
+        if participant >= PARTICIPANTS {
+            return Err(Refusal::WrongParticipant);
+        }
+        self.standing(participant).next(event)
     }
 
     /// The standing of the participant that an account is under.
@@ -181,19 +195,13 @@ impl<Custody: Custodian, HouseMethod: MarginMethod, CustomerMethod: MarginMethod
     }
 
     fn suspend(&mut self, participant: u8) -> Result<(), Refusal> {
-        if participant >= PARTICIPANTS {
-            return Err(Refusal::WrongParticipant);
-        }
-        let next = self.standing(participant).next(DefaultEvent::Suspend)?;
+        let next = self.next_standing(participant, DefaultEvent::Suspend)?;
         self.records.standings[participant as usize] = next;
         Ok(())
     }
 
     fn settle(&mut self, participant: u8) -> Result<(), Refusal> {
-        if participant >= PARTICIPANTS {
-            return Err(Refusal::WrongParticipant);
-        }
-        let next = self.standing(participant).next(DefaultEvent::Settle)?;
+        let next = self.next_standing(participant, DefaultEvent::Settle)?;
         if open_lots(self, participant) != 0 {
             return Err(Refusal::OpenPositions);
         }
