@@ -9,19 +9,13 @@ use Rattle.rules.specs.States.{State, Countable, flat, empty_row, made}
 use Rattle.rules.specs.Orders.{with_held}
 use Rattle.rules.proofs.Same.{get_or_same, none_flat}
 use Rattle.book.specs.declared.mark.Mark.{Mark}
-use Rattle.book.specs.Tables.{AllCountable, AllAffordable, HousesCustomerless, yen_mark, unmarked, mark_of, Priced, Cut}
+use Rattle.book.specs.Tables.{AllAllowed, yen_mark, unmarked, mark_of, Priced, Cut}
 
 countable : Countable flat
 countable k h = rw (none_flat k) (omega arith, omega arith)
 
-pub all_countable : AllCountable (replicate accounts empty_row)
-all_countable account = rw (get_or_same accounts empty_row account) countable
-
-pub all_affordable : AllAffordable (replicate accounts empty_row)
-all_affordable account = rw (get_or_same accounts empty_row account) (omega arith, omega arith, omega arith)
-
-pub houses_customerless : HousesCustomerless (replicate accounts empty_row)
-houses_customerless account h = rw (get_or_same accounts empty_row account) (refl, refl)
+pub all_allowed : AllAllowed (replicate accounts empty_row)
+all_allowed account = rw (get_or_same accounts empty_row account) (record { counts = countable; amounts = (omega arith, omega arith, omega arith); house_row = λ h. (refl, refl) })
 
 -- the marks of a fresh book, yen at its own
 abbrev pub fresh_marks : List Mark

@@ -11,7 +11,7 @@ use Rattle.book.specs.States.{rows_of, state_of, terms_of}
 
 rows_allowed : (table : AccountTable) (account : ℕ) → RowAllowed account (rows_of table account)
 unfolding rows_of
-rows_allowed table account = record { counts = table.countable account; amounts = table.affordable account; house_row = table.customerless account }
+rows_allowed table account = table.allowed account
 
 pub bounded : {S C : Type 0} (records : S → Records) (custody : S → C) (boxes : C → custodian.Boxes) → custodian.Lawful boxes → Bounded (λ s. state_of (records s) (boxes (custody s)))
 bounded records custody boxes h = record {

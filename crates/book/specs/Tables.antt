@@ -1,19 +1,13 @@
 -- What the arrays of a book keep to.
-use Rattle.std.specs.Prelude.{◌≡◌, ℕ, ◌<◌, ◌≤◌, List, get_or, slice_index_or}
+use Rattle.std.specs.Prelude.{◌≡◌, ℕ, ◌≤◌, List, slice_index_or}
 use Rattle.rules.specs.declared.row.AccountRow.{AccountRow}
 use Rattle.book.specs.declared.mark.Mark.{Mark}
-use Rattle.rules.specs.Sizes.{participants, most_price, most_haircut}
-use Rattle.rules.specs.States.{Countable, Affordable, Customerless, empty_row}
+use Rattle.rules.specs.Sizes.{most_price, most_haircut}
+use Rattle.rules.specs.States.{RowAllowed, empty_row}
 
--- in every row, counts and amounts are within their limits, and house rows hold nothing of a customer's
-abbrev pub AllCountable : List AccountRow → Type 0
-AllCountable rows = (account : ℕ) → Countable (get_or rows account empty_row).counts
-
-abbrev pub AllAffordable : List AccountRow → Type 0
-AllAffordable rows = (account : ℕ) → Affordable (slice_index_or rows account empty_row)
-
-abbrev pub HousesCustomerless : List AccountRow → Type 0
-HousesCustomerless rows = (account : ℕ) → account < participants → Customerless (slice_index_or rows account empty_row)
+-- every row is one that its account may have
+abbrev pub AllAllowed : List AccountRow → Type 0
+AllAllowed rows = (account : ℕ) → RowAllowed account (slice_index_or rows account empty_row)
 
 -- Yen is worth what it says. Any other asset is worth nothing until it is first marked, and so is one that there is not.
 abbrev pub yen_mark : Mark

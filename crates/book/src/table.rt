@@ -1,4 +1,4 @@
-ghost use Rattle.book.specs.Tables.{AllCountable, AllAffordable, HousesCustomerless};
+ghost use Rattle.book.specs.Tables.{AllAllowed};
 
 use rules::row::AccountRow;
 use rules::sizes::ACCOUNTS_LEN;
@@ -7,7 +7,5 @@ use rules::sizes::ACCOUNTS_LEN;
 #[derive(Drop)]
 pub(crate) struct AccountTable {
     pub(crate) rows: [AccountRow; ACCOUNTS_LEN],
-    ghost countable: { AllCountable rows },
-    ghost affordable: { AllAffordable rows },
-    ghost customerless: { HousesCustomerless rows },
+    ghost allowed: { AllAllowed rows },
 }
