@@ -1,5 +1,5 @@
 -- Why an order, a question or a file is refused, the number of each refusal, and how one is chosen of several.
-use Rattle.std.specs.Prelude.{ℕ, Bool, cond, List, [], ◌∷◌, Ok, Err, Result}
+use Rattle.std.specs.Prelude.{◌≡◌, ℕ, ◌≤◌, Bool, cond, List, [], ◌∷◌, Ok, Err, Result}
 use Rattle.rules.specs.declared.refusal.Refusal.{Refusal}
 use Rattle.rules.specs.declared.refusal.Refusal.TheVariants.{FileTooLong, UnknownKind, BodyCutShort, AnswerListTooShort, WrongAccount, WrongParticipant, WrongPocket, WrongAsset, OutOfRange, WrongStanding, OverLimit, TooFewUnits, BelowMaintenance, BeyondEntitlement, OpenPositions}
 
@@ -28,6 +28,11 @@ Outcome = Result (Unit {0}) Refusal
 abbrev pub outcome_number : Outcome → ℕ
 outcome_number (Ok _) = 0
 outcome_number (Err refusal) = number refusal
+
+-- What a number names among some things that are numbered from 0: the one that has it, and a refusal where none has.
+abbrev pub Named : {X : Type 0} → (number_of : X → ℕ) → (count : ℕ) → (why : Refusal) → (number : ℕ) → Result X Refusal → Type 0
+Named number_of count why number (Ok x) = number_of x ≡ number
+Named number_of count why number (Err refusal) = (refusal ≡ why) × (count ≤ number)
 
 -- A call tries its refusals in a fixed order, each with the test under which it holds. The first that holds is
 -- answered; its place in the list decides, never its number. Where none holds, the value stands.

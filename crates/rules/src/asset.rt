@@ -1,5 +1,8 @@
 ghost use Rattle.std.specs.Prelude.{◌≡◌};
-ghost use Rattle.rules.specs.Assets.{asset_number, Names};
+ghost use Rattle.rules.specs.declared.refusal.Refusal.TheVariants.{WrongAsset as wrong_asset};
+ghost use Rattle.rules.specs.Sizes.{assets};
+ghost use Rattle.rules.specs.Assets.{asset_number};
+ghost use Rattle.rules.specs.Refusals.{Named};
 ghost use Rattle.rules.specs.Values.{scale as scale_of};
 
 use crate::refusal::Refusal;
@@ -16,7 +19,7 @@ pub enum Asset {
 impl TryFrom<u8> for Asset {
     type Error = Refusal;
 
-    ghost try_from_gives = { Names };
+    ghost try_from_gives = { Named asset_number assets wrong_asset };
 
     /// The asset of a number; refuses one that no asset has with `WrongAsset`.
     fn try_from(number: u8) -> Result<Asset, Refusal> {

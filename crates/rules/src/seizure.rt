@@ -1,4 +1,6 @@
-ghost use Rattle.rules.specs.Sides.{Names};
+ghost use Rattle.rules.specs.declared.refusal.Refusal.TheVariants.{WrongPocket as wrong_pocket};
+ghost use Rattle.rules.specs.Refusals.{Named};
+ghost use Rattle.rules.specs.Sides.{side_number, sides};
 
 use crate::boxes::DepositBox;
 use crate::refusal::Refusal;
@@ -15,7 +17,7 @@ pub enum Side {
 impl TryFrom<u8> for Side {
     type Error = Refusal;
 
-    ghost try_from_gives = { Names };
+    ghost try_from_gives = { Named side_number sides wrong_pocket };
 
     /// The side of a number; refuses one that no side has with `WrongPocket`.
     fn try_from(number: u8) -> Result<Side, Refusal> {
