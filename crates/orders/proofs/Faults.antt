@@ -61,7 +61,7 @@ no_kind byte e order k =
     omega arith
 
 parted_fault : (order : Order) (r : Reading) (f : FileFault) → prepended order r ≡ Err f → r ≡ Err f
-parted_fault order (Ok orders) f e = let z : ◌≡◌ {A = ℕ} 0 1 = cc in let y : ⊥ = omega arith in elim y [ ]
+parted_fault order (Ok orders) f e = absurd cc
 parted_fault order (Err g) f e = e
 
 -- bytes that begin at a place, `again` being the same for fewer bytes
@@ -95,9 +95,9 @@ module _ (f : FileFault) (turns : ℕ) (again : (place : ℕ) (bytes : List ℕ)
 -- `turns` bounds the number of bytes
 broken_from : (turns : ℕ) (f : FileFault) (place : ℕ) (bytes : List ℕ) → length bytes ≤ turns → Bytes bytes → orders_from place 0 bytes ≡ Err f → BrokenFrom place bytes f
 unfolding orders_from
-broken_from zero f place [] l u r = let z : ◌≡◌ {A = ℕ} 0 1 = cc in let y : ⊥ = omega arith in elim y [ ]
-broken_from zero f place (byte ∷ rest) l u r = let y : ⊥ = omega arith in elim y [ ]
-broken_from (suc turns) f place [] l u r = let z : ◌≡◌ {A = ℕ} 0 1 = cc in let y : ⊥ = omega arith in elim y [ ]
+broken_from zero f place [] l u r = absurd cc
+broken_from zero f place (byte ∷ rest) l u r = absurd (omega arith)
+broken_from (suc turns) f place [] l u r = absurd cc
 broken_from (suc turns) f place (byte ∷ rest) l u r = broken_at f turns (broken_from turns f) place byte rest (omega arith) u.1 (found byte kinds) refl r
 
 pub fault_is_there : (bytes : List ℕ) → Bytes bytes → (f : FileFault) → reading bytes ≡ Err f → TooLong bytes f ⊎ Broken bytes f
@@ -138,7 +138,7 @@ told_no_order rest b place =
 
 told_half_order : (rest : List ℕ) → HalfOrder rest → (place : ℕ) → orders_from place 0 rest ≡ Err (fault BodyCutShort place)
 unfolding orders_from written
-told_half_order [] b place = let h = b.begun in let y : ⊥ = omega arith in elim y [ ]
+told_half_order [] b place = let h = b.begun in absurd (omega arith)
 told_half_order (byte ∷ more) b place =
     let order = b.order in
     let w = b.begin in

@@ -58,7 +58,7 @@ own = (
 )
 
 found_one : (P : Kind → Type 0) (byte : ℕ) (some : List Kind) (kind : Kind) → All P some → found byte some ≡ Some kind → (byte ≡ kind.number) × P kind
-found_one P byte [] kind all e = let z : ◌≡◌ {A = ℕ} 0 1 = cc in let y : ⊥ = omega arith in elim y [ ]
+found_one P byte [] kind all e = absurd cc
 found_one P byte (first ∷ rest) kind all e =
     ⊎_elim
     (λ (h : byte ≡ first.number).
@@ -154,14 +154,14 @@ module _ (byte : ℕ) (rest : List ℕ) (u : Bytes rest) (place : ℕ) (orders :
       }
 
   splits : (kind : Option Kind) → found byte kinds ≡ kind → onward (order_at place kind rest) (λ n. orders_from (place + 1) n rest) ≡ Ok orders → Split byte rest place orders
-  splits None e r = let z : ◌≡◌ {A = ℕ} 0 1 = cc in let y : ⊥ = omega arith in elim y [ ]
+  splits None e r = absurd cc
   splits (Some kind) e r =
       let after : ℕ → Reading = λ n. orders_from (place + 1) n rest in
       ⊎_elim
       (λ (h : length rest < size kind).
       let t : ltb (length rest) (size kind) ≡ true = lt-ltb _ _ h in
       let c = rw t at r in
-      let z : ◌≡◌ {A = ℕ} 0 1 = cc in let y : ⊥ = omega arith in elim y [ ])
+      absurd cc)
       (λ (h : size kind ≤ length rest).
       let t : ltb (length rest) (size kind) ≡ false = le-ltb _ _ h in
       whole_body kind e h (rw t at r))
@@ -173,8 +173,8 @@ all_written [] place [] u r = (refl, tt)
 all_written [] place (byte ∷ rest) u r =
     let s = splits byte rest u.1 place [] (found byte kinds) refl r in
     let e = s.both in
-    let z : ◌≡◌ {A = ℕ} 0 1 = cc in let y : ⊥ = omega arith in elim y [ ]
-all_written (order ∷ orders) place [] u r = let z : ◌≡◌ {A = ℕ} 0 1 = cc in let y : ⊥ = omega arith in elim y [ ]
+    absurd cc
+all_written (order ∷ orders) place [] u r = absurd cc
 all_written (order ∷ orders) place (byte ∷ rest) u r =
     let s = splits byte rest u.1 place (order ∷ orders) (found byte kinds) refl r in
     let o : s.first ≡ order = let e = s.both in cc in
