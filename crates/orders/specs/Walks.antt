@@ -23,11 +23,15 @@ abbrev pub first_read : Result (FileOrder × Bor (List ℕ)) Refusal → Result 
 first_read (Ok first) = Ok (meant first.0.raw, first.1.now)
 first_read (Err refusal) = Err refusal
 
--- what a file reads as that is not too long, and what is left to be read from a place on
+-- what a file that is not too long reads as, and what the bytes of any file do once it is known whether they are such a one
+abbrev pub orders_in : OrderFile → Reading
+orders_in file = orders_from 0 0 file.bytes.now
+
 abbrev pub file_read : Result OrderFile FileFault → Reading
-file_read (Ok file) = orders_from 0 0 file.bytes.now
+file_read (Ok file) = orders_in file
 file_read (Err f) = Err f
 
+-- what is left to be read, where an order begins
 abbrev pub left : Orders → Reading
 left orders = orders_from orders.place 0 orders.rest.now
 

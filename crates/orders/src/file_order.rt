@@ -45,7 +45,12 @@ impl<'a> FileOrder<'a> {
                 book.position(account_at(b, 0), u8::at(b, 1), u32::at(b, 2), u32::at(b, 6))
             }
             RawOrder::Declare(b) => {
-                book.declare(account_at(b, 0), u64::at(b, 1), u64::at(b, 9), u64::at(b, 17))
+                book.declare(
+                    account_at(b, 0),
+                    u64::at(b, 1),
+                    u64::at(b, 9),
+                    u64::at(b, 17),
+                )
             }
             RawOrder::Deposit(b) => {
                 book.deposit(account_at(b, 0), u8::at(b, 1), u8::at(b, 2), u64::at(b, 3))

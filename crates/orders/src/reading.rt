@@ -16,7 +16,7 @@ pub(crate) struct OrderFile<'a> {
 
 impl<'a> OrderFile<'a> {
     ghost use Rattle.orders.specs.Reading.{reading};
-    ghost use Rattle.orders.specs.Walks.{file_read, left};
+    ghost use Rattle.orders.specs.Walks.{file_read, orders_in, left};
 
     /// Takes the bytes of a file, unless there are too many.
     pub(crate) fn new(bytes: &'a [u8]) -> Result<Self, FileFault>
@@ -30,7 +30,7 @@ impl<'a> OrderFile<'a> {
 
     /// The orders of the file, from the first on.
     pub(crate) fn orders(self) -> Orders<'a>
-        ensures { left result ≡ file_read (Ok self.entry) }
+        ensures { left result ≡ orders_in self.entry }
     {
         Orders {
             place: 0,

@@ -1,6 +1,6 @@
 ghost use Rattle.std.specs.Prelude.{◌≡◌, ℕ, true, length, is_ok};
 ghost use Rattle.orders.specs.Runs.{with_places, admitted, answered, state_after, list_after};
-ghost use Rattle.orders.specs.Walks.{file_read};
+ghost use Rattle.orders.specs.Walks.{orders_in};
 
 use crate::accepted::Accepted;
 use crate::fault::FileFault;
@@ -10,7 +10,7 @@ use rules::refusal::Refusal;
 
 /// Looks through a file that is to be answered in so many places, and tells why it is refused, if it is.
 fn check(file: OrderFile, places: usize) -> Result<Accepted, FileFault>
-    ensures { result ≡ answered (with_places places (file_read (Ok file.entry))) }
+    ensures { result ≡ answered (with_places places (orders_in file.entry)) }
 {
     let mut orders = 0;
     for order in file.orders() {
@@ -25,13 +25,14 @@ fn check(file: OrderFile, places: usize) -> Result<Accepted, FileFault>
 
 /// Performs the orders of an admitted file one after the other, and answers each in its place of the list.
 fn perform_all<B: MarginBook>(book: &mut B, file: OrderFile, answers: &mut [u8])
-    requires { is_ok (with_places (length answers.old) (file_read (Ok file))) ≡ true }
-    ensures state { B.MarginBook.state book.new ≡ state_after (B.MarginBook.terms book.old) (B.MarginBook.state book.old) (file_read (Ok file.entry)) }
-    ensures list { answers.new ≡ list_after (B.MarginBook.terms book.old) (B.MarginBook.state book.old) answers.old (file_read (Ok file.entry)) }
+    requires { is_ok (with_places (length answers.old) (orders_in file)) ≡ true }
+    ensures state { B.MarginBook.state book.new ≡ state_after (B.MarginBook.terms book.old) (B.MarginBook.state book.old) (orders_in file.entry) }
+    ensures list { answers.new ≡ list_after (B.MarginBook.terms book.old) (B.MarginBook.state book.old) answers.old (orders_in file.entry) }
     ensures same { B.MarginBook.terms book.new ≡ B.MarginBook.terms book.old }
 {
     let mut orders = file.orders();
     for answer in answers.iter_mut() {
+        // An admitted file has no fault, so what is no order is its end.
         let Some(Ok(order)) = orders.next() else {
             break;
         };
