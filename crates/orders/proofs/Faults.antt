@@ -1,14 +1,14 @@
 -- The law of files for bytes that are refused: the fault that is told is there, and the fault that is there is told.
-use Rattle.std.proofs.Common.{◌≡◌, ℕ, zero, suc, ◌+◌, ◌-◌, ◌<◌, ◌≤◌, true, false, ltb, ◌⊎◌, List, [], ◌∷◌, ◌++◌, length, take, drop, replicate, Some, None, Ok, Err, Option, Result, sym, refl, ap, ◌∙◌, inl, inr, ⊎_elim, arith}
-use Rattle.std.proofs.ByRecursion.{All-take, All-drop, All-append, All-from_get_or}
-use Rattle.std.proofs.lemmas.List.{append_assoc, length-append, length-drop, length-take-le, length-replicate, get_or-replicate, take-append-drop}
-use Rattle.std.proofs.lemmas.Bool.{cases_lt, lt-ltb, le-ltb, cond-true}
+use Rattle.std.proofs.Common.{◌≡◌, ℕ, zero, suc, ◌+◌, ◌-◌, ◌<◌, ◌≤◌, ◌⊎◌, List, [], ◌∷◌, ◌++◌, length, replicate, Some, None, Ok, Err, Option, Result, sym, refl, ap, ◌∙◌, inl, inr, ⊎_elim, arith}
+use Rattle.std.proofs.ByRecursion.{All-append, All-from_get_or}
+use Rattle.std.proofs.lemmas.List.{append_assoc, length-append, length-replicate, get_or-replicate}
+use Rattle.std.proofs.lemmas.Bool.{lt-ltb, cond-true}
 use Rattle.rules.specs.declared.refusal.Refusal.{Refusal}
 use Rattle.rules.specs.declared.refusal.Refusal.TheVariants.{UnknownKind, BodyCutShort}
 use Rattle.rules.specs.Orders.{Order}
 use Rattle.orders.specs.declared.fault.FileFault.{FileFault}
 use Rattle.orders.specs.Kinds.{Kind, size, kinds, found, order_in}
-use Rattle.orders.specs.Reading.{Reading, most_bytes, fault, prepended, orders_from, reading}
+use Rattle.orders.specs.Reading.{Reading, fault, prepended, orders_from, reading}
 use Rattle.orders.specs.Files.{kind_of, Fits, written, file_of, AllFit, Bytes}
 use Rattle.orders.specs.Law.{TooLong, NoOrder, HalfOrder, Broken}
 use Rattle.orders.specs.Walks.{first_order}

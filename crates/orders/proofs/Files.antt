@@ -1,12 +1,12 @@
 -- The law of files for bytes that are read: what is written reads back, and what reads as orders is what was written.
-use Rattle.std.proofs.Common.{◌≡◌, ℕ, ◌+◌, ◌-◌, ◌<◌, ◌≤◌, true, false, eqb, ltb, List, [], ◌∷◌, ◌++◌, length, get_or, take, drop, Some, None, Ok, Option, sym, refl, ap, ◌∙◌, ⊎_elim, arith}
+use Rattle.std.proofs.Common.{rules, ◌≡◌, ℕ, ◌+◌, ◌-◌, ◌<◌, ◌≤◌, true, false, eqb, ltb, List, [], ◌∷◌, ◌++◌, length, get_or, take, drop, Some, Ok, sym, refl, ap, ◌∙◌, ⊎_elim, arith}
 use Rattle.std.specs.List.{AllByRecursion as All}
 use Rattle.std.proofs.ByRecursion.{All-take, All-drop}
 use Rattle.std.proofs.lemmas.List.{length-append, take_at, drop_at, take-append-drop, length-take-le, take_all}
-use Rattle.std.proofs.lemmas.Bool.{cases_eq, cases_lt, eq-eqb, ne_eqb, le-ltb, lt-ltb, cond-true, cond-false}
-use Rattle.rules.specs.Orders.{Order, opening, mark, position, declare, deposit, withdraw, suspend, settle, seize}
+use Rattle.std.proofs.lemmas.Bool.{cases_eq, eq-eqb, ne_eqb, le-ltb, cond-true, cond-false}
+use Rattle.rules.specs.Orders.{Order}
 use Rattle.orders.specs.Kinds.{Kind, size, kinds, found, numbers, order_in}
-use Rattle.orders.specs.Reading.{Reading, most_bytes, order_at, prepended, onward, orders_from, reading}
+use Rattle.orders.specs.Reading.{most_bytes, prepended, orders_from, reading}
 use Rattle.orders.specs.Files.{kind_of, numbers_of, fields, Fitting, Fits, written, file_of, AllFit, FileOf, Bytes}
 use Rattle.orders.specs.Walks.{first_order}
 use Rattle.orders.proofs.Walk.{first_whole, one_step, stepped_ok, short_reads, accepted_short}
@@ -15,48 +15,17 @@ use Rattle.orders.proofs.Numbers.{length_fields, numbers_of_fields, fields_of_nu
 -- THE TABLE. Each order is found under its own kind and made again of its own numbers.
 
 pub found_again : (order : Order) → found (kind_of order).number kinds ≡ Some (kind_of order)
-found_again (opening account participant) = refl
-found_again (mark asset price haircut) = refl
-found_again (position account contract long short) = refl
-found_again (declare account customer_margin customer_debt participant_debt) = refl
-found_again (deposit account pocket asset units) = refl
-found_again (withdraw account pocket asset units) = refl
-found_again (suspend participant) = refl
-found_again (settle participant) = refl
-found_again (seize side paying pocket asset paid units) = refl
+found_again order = grind rules
 
 made_again : (order : Order) → (kind_of order).order (λ i. get_or (numbers_of order) i 0) ≡ order
-made_again (opening account participant) = refl
-made_again (mark asset price haircut) = refl
-made_again (position account contract long short) = refl
-made_again (declare account customer_margin customer_debt participant_debt) = refl
-made_again (deposit account pocket asset units) = refl
-made_again (withdraw account pocket asset units) = refl
-made_again (suspend participant) = refl
-made_again (settle participant) = refl
-made_again (seize side paying pocket asset paid units) = refl
+made_again order = grind rules
 
 -- each kind of the table makes orders of its own kind, with the numbers that it was given
 abbrev Own : Kind → Type 0
 Own kind = (body : List ℕ) → (kind_of (order_in kind body) ≡ kind) × (numbers_of (order_in kind body) ≡ numbers 0 kind.widths body)
 
 own : All Own kinds
-own = (
-  λ body. (refl, refl),
-  (
-    λ body. (refl, refl),
-    (
-      λ body. (refl, refl),
-      (
-        λ body. (refl, refl),
-        (
-          λ body. (refl, refl),
-          (λ body. (refl, refl), (λ body. (refl, refl), (λ body. (refl, refl), (λ body. (refl, refl), tt)))),
-        ),
-      ),
-    ),
-  ),
-)
+own = search rules
 
 found_one : (P : Kind → Type 0) (byte : ℕ) (some : List Kind) (kind : Kind) → All P some → found byte some ≡ Some kind → (byte ≡ kind.number) × P kind
 found_one P byte [] kind all e = absurd cc

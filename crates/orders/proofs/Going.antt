@@ -1,12 +1,11 @@
 -- A run under way: some orders of a file are performed, and the others are left.
 use Rattle.std.proofs.Common.{◌≡◌, ℕ, ◌+◌, ◌-◌, ◌<◌, ◌≤◌, true, false, ltb, List, [], ◌∷◌, ◌++◌, length, take, drop, set, is_ok, Ok, Err, sym, refl, ap, ◌∙◌, ⊎_elim, arith}
-use Rattle.std.proofs.lemmas.List.{append_assoc, take-append-drop, take_more_set, drop-set-lt, drop-drop, length-set, drop_all}
+use Rattle.std.proofs.lemmas.List.{append_assoc, take-append-drop, take_more_set, drop-set-lt, drop-drop, length-set}
 use Rattle.std.proofs.lemmas.Bool.{cases_lt, lt-ltb, le-ltb}
 use Rattle.rules.specs.Refusals.{outcome_number}
 use Rattle.rules.specs.States.{State, Terms}
 use Rattle.rules.specs.Orders.{Order, step, answer, after}
 use Rattle.rules.specs.Runs.{run, history}
-use Rattle.orders.specs.declared.fault.FileFault.{FileFault}
 use Rattle.orders.specs.Reading.{Reading, prepended}
 use Rattle.orders.specs.Runs.{with_places, answers_to, state_after, list_after}
 
@@ -39,16 +38,16 @@ none_for (Err f) h = cc
 none_for (Ok []) h = refl
 none_for (Ok (order ∷ orders)) h = let l = room_for 0 (order ∷ orders) h in absurd (omega arith)
 
-module _ (T : Terms) (start : State) (before : List ℕ) (file : Reading) (n : ℕ) (state : State) (answers : List ℕ) where
+module _ {T : Terms} {start : State} {before : List ℕ} {file : Reading} {n : ℕ} {state : State} {answers : List ℕ} where
   -- the next order is performed, over terms that are still the same
-  pub onward : (order : Order) (others left : Reading) → Going T start before file n state answers left → left ≡ prepended order others → n < length answers
-      → (T' : Terms) → T' ≡ T → (state' : State) → state' ≡ (step T' state order).1 → (told : ℕ) → told ≡ outcome_number (step T' state order).0
+  pub onward : (order : Order) {others left : Reading} → Going T start before file n state answers left → left ≡ prepended order others → n < length answers
+      → {T' : Terms} → T' ≡ T → {state' : State} → state' ≡ (step T' state order).1 → {told : ℕ} → told ≡ outcome_number (step T' state order).0
       → Going T start before file (n + 1) state' (set answers n told) others
   unfolding run history answers_to answer after
-  onward order (Err f) left g e h T' same state' s told a =
+  onward order {others = Err f} g e h same s a =
       let r = rw e at g.room in
       absurd cc
-  onward order (Ok orders) left g e h T' same state' s told a =
+  onward order {others = Ok orders} g e h {T' = T'} same {state' = state'} s {told = told} a =
       let s' : state' ≡ (step T state order).1 = rw same at s in
       let a' : told ≡ outcome_number (step T state order).0 = rw same at a in
       let answers' : List ℕ = set answers n told in
@@ -67,7 +66,7 @@ module _ (T : Terms) (start : State) (before : List ℕ) (file : Reading) (n : �
       }
 
   -- no order is left
-  module _ (left : Reading) (g : Going T start before file n state answers left) where
+  module _ {left : Reading} (g : Going T start before file n state answers left) where
     pub done : left ≡ Ok [] → (state ≡ state_after T start file) × (answers ≡ list_after T start before file)
     unfolding run answers_to history
     done e = (

@@ -1,11 +1,10 @@
 -- A walk over a file, order by order: what is read first, and what after it.
-use Rattle.std.proofs.Common.{◌≡◌, ℕ, zero, suc, ◌+◌, ◌-◌, ◌<◌, ◌≤◌, true, false, cond, ltb, ◌⊎◌, List, [], ◌∷◌, length, take, drop, Some, None, Ok, Err, Option, Result, sym, refl, ap, ◌∙◌, inl, inr, ⊎_elim, arith}
+use Rattle.std.proofs.Common.{◌≡◌, ℕ, zero, suc, ◌+◌, ◌-◌, ◌<◌, ◌≤◌, true, false, cond, ltb, ◌⊎◌, List, [], ◌∷◌, length, take, drop, Some, None, Ok, Err, Option, Result, refl, ap, inl, inr, ⊎_elim, arith}
 use Rattle.std.proofs.lemmas.List.{length-drop}
 use Rattle.std.proofs.lemmas.Bool.{cases_lt, lt-ltb, le-ltb, cond-false}
 use Rattle.rules.specs.declared.refusal.Refusal.{Refusal}
 use Rattle.rules.specs.declared.refusal.Refusal.TheVariants.{UnknownKind, BodyCutShort}
 use Rattle.rules.specs.Orders.{Order}
-use Rattle.orders.specs.declared.fault.FileFault.{FileFault}
 use Rattle.orders.specs.Kinds.{Kind, size, kinds, found, order_in}
 use Rattle.orders.specs.Reading.{Reading, most_bytes, fault, order_at, prepended, onward, orders_from, reading}
 use Rattle.orders.specs.Walks.{first_order, counted}
@@ -72,6 +71,10 @@ pub one_step : (place byte : ℕ) (whole bytes : List ℕ) → whole ≡ byte �
     → orders_from place 0 whole ≡ stepped place whole r
 unfolding orders_from
 one_step place byte whole bytes split r e = rw (split, e) (step_of place byte bytes (found byte kinds))
+
+pub step_on : (place byte : ℕ) (whole bytes : List ℕ) (order : Order) (rest : List ℕ) → whole ≡ byte ∷ bytes → Ok (order, rest) ≡ first_order (found byte kinds) bytes
+    → orders_from place 0 whole ≡ prepended order (orders_from (place + (length whole - length rest)) 0 rest)
+step_on place byte whole bytes order rest split e = one_step place byte whole bytes split (Ok (order, rest)) e
 
 pub none_left : (place : ℕ) (bytes : List ℕ) → length bytes ≡ 0 → orders_from place 0 bytes ≡ Ok []
 unfolding orders_from

@@ -56,6 +56,7 @@ impl<'a> Iterator for Orders<'a> {
 
     ghost remaining = { λ orders. at_most (length orders.rest.now) };
 
+    #[tactic(auto, using(crate::proofs::Walk::one_step, crate::proofs::Walk::step_on, crate::proofs::Walk::none_left), unfolding(crate::specs::Reading::orders_from))]
     fn next(&mut self) -> Option<Result<FileOrder<'a>, FileFault>> {
         let (kind, bytes) = self.rest.split_first()?;
         match FileOrder::read_first(*kind, bytes) {

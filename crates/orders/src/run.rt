@@ -24,6 +24,7 @@ fn check(file: OrderFile, places: usize) -> Result<Accepted, FileFault>
 }
 
 /// Performs the orders of an admitted file one after the other, and answers each in its place of the list.
+#[tactic(auto, using(crate::proofs::Going::done, crate::proofs::Going::no_more))]
 fn perform_all<B: MarginBook>(book: &mut B, file: OrderFile, answers: &mut [u8])
     requires { is_ok (with_places (length answers.old) (orders_in file)) ≡ true }
     ensures state { B.MarginBook.state book.new ≡ state_after (B.MarginBook.terms book.old) (B.MarginBook.state book.old) (orders_in file.entry) }

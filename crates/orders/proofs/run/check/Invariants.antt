@@ -1,4 +1,4 @@
-use Rattle.std.proofs.Common.{◌≡◌, ℕ, ◌+◌, ◌≤◌, length, Ok}
+use Rattle.std.proofs.Common.{◌≡◌, ◌+◌, ◌≤◌, length}
 use Rattle.orders.specs.Reading.{most_bytes}
 use Rattle.orders.specs.Walks.{orders_in, left, counted}
 use Rattle.orders.proofs.run.check.Given as goal

@@ -1,4 +1,4 @@
-use Rattle.std.proofs.Common.{◌≡◌, Ok}
+use Rattle.std.proofs.Common.{◌≡◌}
 use Rattle.orders.specs.Walks.{orders_in, left}
 use Rattle.orders.proofs.Going.{Going}
 use Rattle.orders.proofs.run.perform_all.Given as goal
