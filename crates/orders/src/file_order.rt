@@ -20,7 +20,8 @@ impl<'a> FileOrder<'a> {
     ghost use Rattle.orders.specs.Kinds.{kinds, found};
     ghost use Rattle.orders.specs.Walks.{first_order, first_read};
 
-    /// The order that some bytes begin with, after its kind byte, and the bytes after it; or what is wrong with it.
+    /// Reads an order by its kind byte and the bytes that follow that, and hands on the bytes after the order; or tells
+    /// what is wrong with it.
     pub(crate) fn read_first(kind: u8, bytes: &'a [u8]) -> Result<(Self, &'a [u8]), Refusal>
         ensures reads { first_read result ≡ first_order (found kind kinds) bytes.now }
         ensures shorter { IfOk result (λ first. length first.1.now ≤ length bytes.now) }

@@ -22,6 +22,7 @@ pub(crate) enum OrderKind {
 impl TryFrom<u8> for OrderKind {
     type Error = Refusal;
 
+    /// The kind of the table that has this number, or the refusal of a number that none has.
     ghost try_from_gives = { λ byte kind. named kind ≡ known (found byte kinds) };
 
     fn try_from(byte: u8) -> Result<Self, Refusal> {

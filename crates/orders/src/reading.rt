@@ -39,7 +39,7 @@ impl<'a> OrderFile<'a> {
     }
 }
 
-/// The orders of a file from a place on, as an iterator. A fault is the last that it gives.
+/// Gives the orders of a file one after the other, from a place on. At a fault it gives that, and nothing more.
 #[derive(Drop)]
 pub(crate) struct Orders<'a> {
     place: usize,

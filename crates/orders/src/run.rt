@@ -32,8 +32,10 @@ fn perform_all<B: MarginBook>(book: &mut B, file: OrderFile, answers: &mut [u8])
     ensures same { B.MarginBook.terms book.new ≡ B.MarginBook.terms book.old }
 {
     let mut orders = file.orders();
+    // The orders are not zipped with the list: the check has no proof yet for an iterator that holds a `&mut` beside a
+    // struct with a ghost field.
     for answer in answers.iter_mut() {
-        // An admitted file has no fault, so what is no order is its end.
+        // An admitted file has no fault, so where no order comes it is at its end.
         let Some(Ok(order)) = orders.next() else {
             break;
         };
