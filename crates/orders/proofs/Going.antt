@@ -40,14 +40,14 @@ none_for (Ok (order ∷ orders)) h = let l = room_for 0 (order ∷ orders) h in 
 
 module _ {T : Terms} {start : State} {before : List ℕ} {file : Reading} {n : ℕ} {state : State} {answers : List ℕ} where
   -- the next order is performed, over terms that are still the same
-  pub onward : (order : Order) {others left : Reading} → Going T start before file n state answers left → left ≡ prepended order others → n < length answers
-      → {T' : Terms} → T' ≡ T → {state' : State} → state' ≡ (step T' state order).1 → {told : ℕ} → told ≡ outcome_number (step T' state order).0
+  pub onward : (order : Order) (told : ℕ) {others left : Reading} → Going T start before file n state answers left → left ≡ prepended order others → n < length answers
+      → {T' : Terms} → T' ≡ T → {state' : State} → state' ≡ (step T' state order).1 → told ≡ outcome_number (step T' state order).0
       → Going T start before file (n + 1) state' (set answers n told) others
   unfolding run history answers_to answer after
-  onward order {others = Err f} g e h same s a =
+  onward order told {others = Err f} g e h same s a =
       let r = rw e at g.room in
       absurd cc
-  onward order {others = Ok orders} g e h {T' = T'} same {state' = state'} s {told = told} a =
+  onward order told {others = Ok orders} g e h {T' = T'} same {state' = state'} s a =
       let s' : state' ≡ (step T state order).1 = rw same at s in
       let a' : told ≡ outcome_number (step T state order).0 = rw same at a in
       let answers' : List ℕ = set answers n told in

@@ -8,7 +8,7 @@ pub loop-answer-preserved : goal.loop-answer-preserved
 loop-answer-preserved g c =
     let i = c.loop-answer.invariant in
     let more : c.loop-answer.answer-index < length c.loop-answer.answers = rw c.loop-answer.auto.answers c.loop-answer-test.true in (
-      onward (meant c.in-Some-Ok.order.raw) i.0 (rw c.in-Some-Ok.field-0-is at c.in-Some-Ok.ensures.steps) more i.1 c.perform.ensures.state {told = c.perform.result} c.perform.ensures.number,
+      onward (meant c.in-Some-Ok.order.raw) c.perform.result i.0 (rw c.in-Some-Ok.field-0-is at c.in-Some-Ok.ensures.steps) more i.1 c.perform.ensures.state c.perform.ensures.number,
       c.perform.ensures.same ∙ i.1,
     )
 
