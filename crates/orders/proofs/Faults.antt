@@ -1,17 +1,19 @@
 -- The law of files for bytes that are refused: the fault that is told is there, and the fault that is there is told.
-use Rattle.std.proofs.Common.{◌≡◌, ℕ, zero, suc, ◌+◌, ◌-◌, ◌<◌, ◌≤◌, true, false, ltb, ◌⊎◌, List, [], ◌∷◌, ◌++◌, length, take, drop, replicate, Some, None, Ok, Err, Option, sym, refl, ap, ◌∙◌, inl, inr, ⊎_elim, arith}
-use Rattle.std.proofs.ByRecursion.{All-take, All-drop, All-append, All-from_get_or}
-use Rattle.std.proofs.lemmas.List.{append_assoc, length-append, length-drop, length-take-le, length-replicate, get_or-replicate, take-append-drop}
-use Rattle.std.proofs.lemmas.Bool.{cases_lt, lt-ltb, le-ltb, cond-true}
+use Rattle.std.proofs.Common.{◌≡◌, ℕ, zero, suc, ◌+◌, ◌-◌, ◌<◌, ◌≤◌, ◌⊎◌, List, [], ◌∷◌, ◌++◌, length, replicate, Some, None, Ok, Err, Option, Result, sym, refl, ap, ◌∙◌, inl, inr, ⊎_elim, arith}
+use Rattle.std.proofs.ByRecursion.{All-append, All-from_get_or}
+use Rattle.std.proofs.lemmas.List.{append_assoc, length-append, length-replicate, get_or-replicate}
+use Rattle.std.proofs.lemmas.Bool.{lt-ltb, cond-true}
+use Rattle.rules.specs.declared.refusal.Refusal.{Refusal}
 use Rattle.rules.specs.declared.refusal.Refusal.TheVariants.{UnknownKind, BodyCutShort}
 use Rattle.rules.specs.Orders.{Order}
 use Rattle.orders.specs.declared.fault.FileFault.{FileFault}
 use Rattle.orders.specs.Kinds.{Kind, size, kinds, found, order_in}
-use Rattle.orders.specs.Reading.{Reading, most_bytes, fault, order_at, prepended, onward, orders_from, reading}
+use Rattle.orders.specs.Reading.{Reading, fault, prepended, orders_from, reading}
 use Rattle.orders.specs.Files.{kind_of, Fits, written, file_of, AllFit, Bytes}
 use Rattle.orders.specs.Law.{TooLong, NoOrder, HalfOrder, Broken}
-use Rattle.orders.proofs.Walk.{passed_over, short_reads}
-use Rattle.orders.proofs.Files.{found_again, some_order, length_written, made_of_bytes, read_first}
+use Rattle.orders.specs.Walks.{first_order}
+use Rattle.orders.proofs.Walk.{failed, first_wrong, stepped, one_step, short_reads}
+use Rattle.orders.proofs.Files.{found_again, some_order, length_written, made_of_bytes, first_written, read_first}
 
 -- THE FAULT THAT IS TOLD IS THERE
 
@@ -57,60 +59,52 @@ half byte rest u kind e h =
 no_kind : (byte : ℕ) → found byte kinds ≡ None → (order : Order) → (kind_of order).number ≡ byte → ⊥
 no_kind byte e order k =
     let s : found byte kinds ≡ Some (kind_of order) = ap (λ (x : ℕ). found x kinds) (sym k) ∙ found_again order in
-    let z : ◌≡◌ {A = ℕ} 0 1 = cc in
-    omega arith
+    absurd cc
 
 parted_fault : (order : Order) (r : Reading) (f : FileFault) → prepended order r ≡ Err f → r ≡ Err f
-parted_fault order (Ok orders) f e = let z : ◌≡◌ {A = ℕ} 0 1 = cc in let y : ⊥ = omega arith in elim y [ ]
+parted_fault order (Ok orders) f e = absurd cc
 parted_fault order (Err g) f e = e
+
+-- what is wrong with the first order
+why_first : (byte : ℕ) (bytes : List ℕ) → Bytes bytes → (place : ℕ) (refusal : Refusal) → first_order (found byte kinds) bytes ≡ Err refusal → Why (byte ∷ bytes) (fault refusal place)
+why_first byte bytes u place refusal e =
+    ⊎_elim
+    (λ p. inl (record { byte = byte; more = bytes; begin = refl; no_kind = no_kind byte p.0 }, p.1))
+    (λ p. inr (half byte bytes u p.0 p.1 p.2, p.3))
+    (first_wrong (found byte kinds) bytes refusal e)
 
 -- bytes that begin at a place, `again` being the same for fewer bytes
 module _ (f : FileFault) (turns : ℕ) (again : (place : ℕ) (bytes : List ℕ) → length bytes ≤ turns → Bytes bytes → orders_from place 0 bytes ≡ Err f → BrokenFrom place bytes f) where
-  broken_at : (place byte : ℕ) (rest : List ℕ) → length rest ≤ turns → Bytes rest → (kind : Option Kind) → found byte kinds ≡ kind
-      → onward (order_at place kind rest) (λ n. orders_from (place + 1) n rest) ≡ Err f → BrokenFrom place (byte ∷ rest) f
-  broken_at place byte rest l u None e r =
-      let q : f ≡ fault UnknownKind place = cc in
-      at_once place (byte ∷ rest) f (ap (λ (x : FileFault). x.place) q)
-      (inl (record { byte = byte; more = rest; begin = refl; no_kind = no_kind byte e }, ap (λ (x : FileFault). x.refusal) q))
-  broken_at place byte rest l u (Some kind) e r =
-      let n : ℕ = size kind in
-      ⊎_elim
-      (λ (h : length rest < n).
-      let t : ltb (length rest) n ≡ true = lt-ltb _ _ h in
-      let d = rw t at r in
-      let q : f ≡ fault BodyCutShort place = cc in
-      at_once place (byte ∷ rest) f (ap (λ (x : FileFault). x.place) q) (inr (half byte rest u kind e h, ap (λ (x : FileFault). x.refusal) q)))
-      (λ (h : n ≤ length rest).
-      let t : ltb (length rest) n ≡ false = le-ltb _ _ h in
-      let d = rw t at r in
-      let order : Order = order_in kind (take n rest) in
-      let o = made_of_bytes byte kind e (take n rest) (All-take (λ x. x < 256) n rest u) (length-take-le n rest h) in
-      let left = sym (passed_over (place + 1) n rest) ∙ parted_fault order (orders_from (place + 1) n rest) f d in
-      let w : place + length (written order) ≡ place + 1 + n = omega (arith, ap length o.1, length-take-le n rest h) in
-      let b : BrokenFrom (place + 1 + n) (drop n rest) f = again (place + 1 + n) (drop n rest) (omega (arith, length-drop n rest)) (All-drop (λ x. x < 256) n rest u) left in
-      let s : written order ++ drop n rest ≡ byte ∷ rest = ap (λ (xs : List ℕ). xs ++ drop n rest) o.1 ∙ ap (λ (xs : List ℕ). byte ∷ xs) (take-append-drop n rest) in
-      rw s at (after_order place (drop n rest) f order o.0 (rw w b)))
-      (cases_lt (length rest) n)
+  broken_at : (place byte : ℕ) (bytes : List ℕ) → length bytes ≤ turns → Bytes bytes → (r : Result (Order × List ℕ) Refusal) → first_order (found byte kinds) bytes ≡ r
+      → stepped place (byte ∷ bytes) r ≡ Err f → BrokenFrom place (byte ∷ bytes) f
+  broken_at place byte bytes l u (Err refusal) e h =
+      let q : fault refusal place ≡ f = cc in
+      rw (← q) (at_once place (byte ∷ bytes) (fault refusal place) refl (why_first byte bytes u place refusal e))
+  broken_at place byte bytes l u (Ok first) e h =
+      let w = first_written byte bytes u first e in
+      let long = length_written first.0 w.0 in
+      let whole = ap length w.1 in
+      let p : place + (length (byte ∷ bytes) - length first.1) ≡ place + length (written first.0) = omega (arith, whole, length-append (written first.0) first.1) in
+      let others = parted_fault first.0 (orders_from (place + (length (byte ∷ bytes) - length first.1)) 0 first.1) f h in
+      let b = again (place + length (written first.0)) first.1 (omega (arith, whole, length-append (written first.0) first.1)) w.2 (rw p at others) in
+      rw w.1 (after_order place first.1 f first.0 w.0 b)
 
 -- `turns` bounds the number of bytes
 broken_from : (turns : ℕ) (f : FileFault) (place : ℕ) (bytes : List ℕ) → length bytes ≤ turns → Bytes bytes → orders_from place 0 bytes ≡ Err f → BrokenFrom place bytes f
 unfolding orders_from
-broken_from zero f place [] l u r = let z : ◌≡◌ {A = ℕ} 0 1 = cc in let y : ⊥ = omega arith in elim y [ ]
-broken_from zero f place (byte ∷ rest) l u r = let y : ⊥ = omega arith in elim y [ ]
-broken_from (suc turns) f place [] l u r = let z : ◌≡◌ {A = ℕ} 0 1 = cc in let y : ⊥ = omega arith in elim y [ ]
-broken_from (suc turns) f place (byte ∷ rest) l u r = broken_at f turns (broken_from turns f) place byte rest (omega arith) u.1 (found byte kinds) refl r
+broken_from turns f place [] l u r = absurd cc
+broken_from zero f place (byte ∷ bytes) l u r = absurd (omega arith)
+broken_from (suc turns) f place (byte ∷ bytes) l u r =
+    broken_at f turns (broken_from turns f) place byte bytes (omega arith) u.1 (first_order (found byte kinds) bytes) refl (sym (one_step place byte _ bytes refl _ refl) ∙ r)
 
 pub fault_is_there : (bytes : List ℕ) → Bytes bytes → (f : FileFault) → reading bytes ≡ Err f → TooLong bytes f ⊎ Broken bytes f
 fault_is_there bytes u f r =
     ⊎_elim
-    (λ (h : most_bytes < length bytes).
-    let t : ltb most_bytes (length bytes) ≡ true = lt-ltb _ _ h in
-    let d = rw t at r in
-    inl (h, cc))
-    (λ (h : length bytes ≤ most_bytes).
-    let b = broken_from (length bytes) f 0 bytes (omega arith) u (sym (short_reads bytes h) ∙ r) in
-    inr (record { short = h; orders = b.orders; fit = b.fit; rest = b.rest; before = b.before; place = let a = b.at in omega arith; why = b.why }))
-    (cases_lt most_bytes (length bytes))
+    (λ p. inl (p.0, p.1))
+    (λ p.
+    let b = broken_from (length bytes) f 0 bytes (omega arith) u p.1 in
+    inr (record { short = p.0; orders = b.orders; fit = b.fit; rest = b.rest; before = b.before; place = let a = b.at in omega arith; why = b.why }))
+    (failed _ _ _ _ _ r)
 
 -- THE FAULT THAT IS THERE IS TOLD
 
@@ -120,25 +114,22 @@ told_after : (f : FileFault) (rest : List ℕ) (orders : List Order) → AllFit 
 unfolding file_of
 told_after f rest [] fit place e = let z : place + 0 ≡ place = omega arith in rw z at e
 told_after f rest (order ∷ orders) fit place e =
-    let w = length_written order fit.0 in
-    let p : place + length (written order ++ file_of orders) ≡ place + 1 + size (kind_of order) + length (file_of orders) = omega (arith, length-append (written order) (file_of orders)) in
-    let after = told_after f rest orders fit.1 (place + 1 + size (kind_of order)) (rw p at e) in
+    let p : place + length (written order ++ file_of orders) ≡ place + length (written order) + length (file_of orders) = omega (arith, length-append (written order) (file_of orders)) in
+    let after = told_after f rest orders fit.1 (place + length (written order)) (rw p at e) in
     rw (append_assoc (written order) (file_of orders) rest) (read_first order fit.0 place (file_of orders ++ rest) ∙ ap (prepended order) after)
 
 -- a byte with which no order begins stands for no kind
 none_found : (byte : ℕ) → ((order : Order) → (kind_of order).number ≡ byte → ⊥) → (kind : Option Kind) → found byte kinds ≡ kind → kind ≡ None
 none_found byte never None e = refl
-none_found byte never (Some kind) e = elim (never (order_in kind []) (some_order byte kind e)) [ ]
+none_found byte never (Some kind) e = absurd (never (order_in kind []) (some_order byte kind e))
 
 told_no_order : (rest : List ℕ) → NoOrder rest → (place : ℕ) → orders_from place 0 rest ≡ Err (fault UnknownKind place)
-unfolding orders_from
 told_no_order rest b place =
-    ap (orders_from place 0) b.begin
-    ∙ ap (λ k. onward (order_at place k b.more) (λ n. orders_from (place + 1) n b.more)) (none_found b.byte b.no_kind (found b.byte kinds) refl)
+    one_step place b.byte rest b.more b.begin (Err UnknownKind) (sym (ap (λ k. first_order k b.more) (none_found b.byte b.no_kind (found b.byte kinds) refl)))
 
 told_half_order : (rest : List ℕ) → HalfOrder rest → (place : ℕ) → orders_from place 0 rest ≡ Err (fault BodyCutShort place)
-unfolding orders_from written
-told_half_order [] b place = let h = b.begun in let y : ⊥ = omega arith in elim y [ ]
+unfolding written
+told_half_order [] b place = let h = b.begun in absurd (omega arith)
 told_half_order (byte ∷ more) b place =
     let order = b.order in
     let w = b.begin in
@@ -146,8 +137,8 @@ told_half_order (byte ∷ more) b place =
     let s : found byte kinds ≡ Some (kind_of order) = ap (λ (x : ℕ). found x kinds) (sym k) ∙ found_again order in
     let l = length_written order b.fits in
     let m = b.unfinished in
-    let t : ltb (length more) (size (kind_of order)) ≡ true = lt-ltb _ _ (omega (arith, ap length w, length-append more b.missing)) in
-    ap (λ x. onward (order_at place x more) (λ n. orders_from (place + 1) n more)) s ∙ rw t refl
+    let t : length more < size (kind_of order) = omega (arith, ap length w, length-append more b.missing) in
+    one_step place byte _ more refl (Err BodyCutShort) (sym (ap (λ x. first_order x more) s ∙ cond-true _ _ _ (lt-ltb _ _ t)))
 
 pub fault_is_told : (bytes : List ℕ) (f : FileFault) → TooLong bytes f ⊎ Broken bytes f → reading bytes ≡ Err f
 fault_is_told bytes f (inl h) = cond-true _ _ _ (lt-ltb _ _ h.0) ∙ ap Err (sym h.1)

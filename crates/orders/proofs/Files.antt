@@ -1,64 +1,34 @@
 -- The law of files for bytes that are read: what is written reads back, and what reads as orders is what was written.
-use Rattle.std.proofs.Common.{◌≡◌, ℕ, ◌+◌, ◌<◌, ◌≤◌, true, false, eqb, ltb, List, [], ◌∷◌, ◌++◌, length, get_or, take, drop, Some, None, Ok, Option, sym, refl, ap, ◌∙◌, ⊎_elim, arith}
+use Rattle.std.proofs.Common.{rules, ◌≡◌, ℕ, ◌+◌, ◌-◌, ◌<◌, ◌≤◌, true, false, eqb, ltb, List, [], ◌∷◌, ◌++◌, length, get_or, take, drop, Some, Ok, sym, refl, ap, ◌∙◌, ⊎_elim, arith}
 use Rattle.std.specs.List.{AllByRecursion as All}
 use Rattle.std.proofs.ByRecursion.{All-take, All-drop}
 use Rattle.std.proofs.lemmas.List.{length-append, take_at, drop_at, take-append-drop, length-take-le, take_all}
-use Rattle.std.proofs.lemmas.Bool.{cases_eq, cases_lt, eq-eqb, ne_eqb, le-ltb, lt-ltb, cond-true, cond-false}
-use Rattle.rules.specs.Orders.{Order, opening, mark, position, declare, deposit, withdraw, suspend, settle, seize}
+use Rattle.std.proofs.lemmas.Bool.{cases_eq, eq-eqb, ne_eqb, le-ltb, cond-true, cond-false}
+use Rattle.rules.specs.Orders.{Order}
 use Rattle.orders.specs.Kinds.{Kind, size, kinds, found, numbers, order_in}
-use Rattle.orders.specs.Reading.{Reading, most_bytes, order_at, prepended, onward, orders_from, reading}
+use Rattle.orders.specs.Reading.{most_bytes, prepended, orders_from, reading}
 use Rattle.orders.specs.Files.{kind_of, numbers_of, fields, Fitting, Fits, written, file_of, AllFit, FileOf, Bytes}
-use Rattle.orders.proofs.Walk.{passed_over, parted, short_reads, accepted_short}
+use Rattle.orders.specs.Walks.{first_order}
+use Rattle.orders.proofs.Walk.{first_whole, one_step, stepped_ok, short_reads, accepted_short}
 use Rattle.orders.proofs.Numbers.{length_fields, numbers_of_fields, fields_of_numbers, numbers_fit}
 
 -- THE TABLE. Each order is found under its own kind and made again of its own numbers.
 
 pub found_again : (order : Order) → found (kind_of order).number kinds ≡ Some (kind_of order)
-found_again (opening account participant) = refl
-found_again (mark asset price haircut) = refl
-found_again (position account contract long short) = refl
-found_again (declare account customer_margin customer_debt participant_debt) = refl
-found_again (deposit account pocket asset units) = refl
-found_again (withdraw account pocket asset units) = refl
-found_again (suspend participant) = refl
-found_again (settle participant) = refl
-found_again (seize side paying pocket asset paid units) = refl
+found_again order = grind rules
 
 made_again : (order : Order) → (kind_of order).order (λ i. get_or (numbers_of order) i 0) ≡ order
-made_again (opening account participant) = refl
-made_again (mark asset price haircut) = refl
-made_again (position account contract long short) = refl
-made_again (declare account customer_margin customer_debt participant_debt) = refl
-made_again (deposit account pocket asset units) = refl
-made_again (withdraw account pocket asset units) = refl
-made_again (suspend participant) = refl
-made_again (settle participant) = refl
-made_again (seize side paying pocket asset paid units) = refl
+made_again order = grind rules
 
 -- each kind of the table makes orders of its own kind, with the numbers that it was given
 abbrev Own : Kind → Type 0
 Own kind = (body : List ℕ) → (kind_of (order_in kind body) ≡ kind) × (numbers_of (order_in kind body) ≡ numbers 0 kind.widths body)
 
 own : All Own kinds
-own = (
-  λ body. (refl, refl),
-  (
-    λ body. (refl, refl),
-    (
-      λ body. (refl, refl),
-      (
-        λ body. (refl, refl),
-        (
-          λ body. (refl, refl),
-          (λ body. (refl, refl), (λ body. (refl, refl), (λ body. (refl, refl), (λ body. (refl, refl), tt)))),
-        ),
-      ),
-    ),
-  ),
-)
+own = search rules
 
 found_one : (P : Kind → Type 0) (byte : ℕ) (some : List Kind) (kind : Kind) → All P some → found byte some ≡ Some kind → (byte ≡ kind.number) × P kind
-found_one P byte [] kind all e = let z : ◌≡◌ {A = ℕ} 0 1 = cc in let y : ⊥ = omega arith in elim y [ ]
+found_one P byte [] kind all e = absurd cc
 found_one P byte (first ∷ rest) kind all e =
     ⊎_elim
     (λ (h : byte ≡ first.number).
@@ -83,29 +53,27 @@ module _ (order : Order) (fits : Fits order) where
   body_read_back =
       ap (λ (ns : List ℕ). (kind_of order).order (λ i. get_or ns i 0)) (numbers_of_fields (kind_of order).widths (numbers_of order) [] fits) ∙ made_again order
 
-  starts : (place : ℕ) (rest : List ℕ) → order_at place (Some (kind_of order)) (body ++ rest) ≡ Ok (order, size (kind_of order))
-  starts place rest =
+  first_again : (rest : List ℕ) → first_order (found (kind_of order).number kinds) (body ++ rest) ≡ Ok (order, rest)
+  first_again rest =
       let n : ℕ = size (kind_of order) in
       let t : ltb (length (body ++ rest)) n ≡ false = le-ltb _ _ (omega (arith, length-append body rest, body_long)) in
       let b : take n (body ++ rest) ≡ body = take_at body rest n body_long in
-      rw (t, b, body_read_back)
-
-  pub read_first : (place : ℕ) (rest : List ℕ) → orders_from place 0 (written order ++ rest) ≡ prepended order (orders_from (place + 1 + size (kind_of order)) 0 rest)
-  unfolding orders_from written body
-  read_first place rest =
-      let n : ℕ = size (kind_of order) in
       let d : drop n (body ++ rest) ≡ rest = drop_at body rest n body_long in
-      ap (λ k. onward (order_at place k (body ++ rest)) (λ m. orders_from (place + 1) m (body ++ rest))) (found_again order)
-      ∙ ap (λ r. onward r (λ m. orders_from (place + 1) m (body ++ rest))) (starts place rest)
-      ∙ ap (prepended order) (passed_over (place + 1) n (body ++ rest) ∙ ap (orders_from (place + 1 + n) 0) d)
+      ap (λ k. first_order k (body ++ rest)) (found_again order) ∙ rw (t, b, d, body_read_back) refl
 
-pub read_all : (orders : List Order) → AllFit orders → (place : ℕ) → orders_from place 0 (file_of orders) ≡ Ok orders
+  pub read_first : (place : ℕ) (rest : List ℕ) → orders_from place 0 (written order ++ rest) ≡ prepended order (orders_from (place + length (written order)) 0 rest)
+  unfolding written body
+  read_first place rest =
+      let p : place + (length (written order ++ rest) - length rest) ≡ place + length (written order) = omega (arith, length-append (written order) rest) in
+      one_step place (kind_of order).number (written order ++ rest) (body ++ rest) refl (Ok (order, rest)) (sym (first_again rest))
+      ∙ ap (λ (n : ℕ). prepended order (orders_from n 0 rest)) p
+
+read_all : (orders : List Order) → AllFit orders → (place : ℕ) → orders_from place 0 (file_of orders) ≡ Ok orders
 unfolding file_of orders_from
 read_all [] fit place = refl
 read_all (order ∷ orders) fit place =
-    read_first order fit.0 place (file_of orders) ∙ ap (prepended order) (read_all orders fit.1 (place + 1 + size (kind_of order)))
+    read_first order fit.0 place (file_of orders) ∙ ap (prepended order) (read_all orders fit.1 (place + length (written order)))
 
--- A kind byte and as many bytes as its kind has are an order written down.
 -- A byte that stands for a kind is the kind byte of some order.
 pub some_order : (byte : ℕ) (kind : Kind) → found byte kinds ≡ Some kind → (kind_of (order_in kind [])).number ≡ byte
 some_order byte kind e = let k = found_one Own byte kinds kind own e in ap (λ (x : Kind). x.number) (k.1 []).0 ∙ sym k.0
@@ -114,6 +82,7 @@ pub length_written : (order : Order) → Fits order → length (written order) �
 unfolding written
 length_written order fits = omega (arith, length_fields (kind_of order).widths (numbers_of order) fits)
 
+-- A kind byte and as many bytes as its kind has are an order written down.
 pub made_of_bytes : (byte : ℕ) (kind : Kind) → found byte kinds ≡ Some kind → (body : List ℕ) → Bytes body → length body ≡ size kind
     → Fits (order_in kind body) × (written (order_in kind body) ≡ byte ∷ body)
 unfolding written
@@ -125,66 +94,33 @@ made_of_bytes byte kind e body u l =
     let f : Fitting kind.widths (numbers 0 kind.widths body) = numbers_fit body u kind.widths 0 (omega arith) in
     (rw (o.0, o.1) f, rw (o.0, o.1, w, k.0))
 
--- What was read as orders begins with the first of them written down, and what follows reads as the others.
-record Split (byte : ℕ) (rest : List ℕ) (place : ℕ) (orders : List Order) : Type 0 where
-  pub first : Order
-  pub others : List Order
-  pub both : orders ≡ first ∷ others
-  pub fits : Fits first
-  pub long : ℕ
-  pub bytes : byte ∷ take long rest ≡ written first
-  pub onward : orders_from (place + 1 + long) 0 (drop long rest) ≡ Ok others
+-- So what is read first is written down there.
+pub first_written : (byte : ℕ) (bytes : List ℕ) → Bytes bytes → (first : Order × List ℕ) → first_order (found byte kinds) bytes ≡ Ok first
+    → Fits first.0 × (byte ∷ bytes ≡ written first.0 ++ first.1) × Bytes first.1
+first_written byte bytes u first e =
+    let w = first_whole (found byte kinds) bytes first e in
+    let n : ℕ = size w.0 in
+    let o = made_of_bytes byte w.0 w.1 (take n bytes) (All-take (λ d. d < 256) n bytes u) (length-take-le n bytes w.2) in
+    rw w.3
+    (o.0, sym (ap (λ (xs : List ℕ). xs ++ drop n bytes) o.1 ∙ ap (λ (xs : List ℕ). byte ∷ xs) (take-append-drop n bytes)), All-drop (λ d. d < 256) n bytes u)
 
-module _ (byte : ℕ) (rest : List ℕ) (u : Bytes rest) (place : ℕ) (orders : List Order) where
-  whole_body : (kind : Kind) → found byte kinds ≡ Some kind → size kind ≤ length rest
-      → prepended (order_in kind (take (size kind) rest)) (orders_from (place + 1) (size kind) rest) ≡ Ok orders → Split byte rest place orders
-  whole_body kind e h r =
-      let n : ℕ = size kind in
-      let body : List ℕ = take n rest in
-      let o = made_of_bytes byte kind e body (All-take (λ d. d < 256) n rest u) (length-take-le n rest h) in
-      let p = parted (order_in kind body) (orders_from (place + 1) n rest) orders r in
-      record {
-        first = order_in kind body;
-        others = p.0;
-        both = p.2;
-        fits = o.0;
-        long = n;
-        bytes = sym o.1;
-        onward = sym (passed_over (place + 1) n rest) ∙ p.1;
-      }
-
-  splits : (kind : Option Kind) → found byte kinds ≡ kind → onward (order_at place kind rest) (λ n. orders_from (place + 1) n rest) ≡ Ok orders → Split byte rest place orders
-  splits None e r = let z : ◌≡◌ {A = ℕ} 0 1 = cc in let y : ⊥ = omega arith in elim y [ ]
-  splits (Some kind) e r =
-      let after : ℕ → Reading = λ n. orders_from (place + 1) n rest in
-      ⊎_elim
-      (λ (h : length rest < size kind).
-      let t : ltb (length rest) (size kind) ≡ true = lt-ltb _ _ h in
-      let c = rw t at r in
-      let z : ◌≡◌ {A = ℕ} 0 1 = cc in let y : ⊥ = omega arith in elim y [ ])
-      (λ (h : size kind ≤ length rest).
-      let t : ltb (length rest) (size kind) ≡ false = le-ltb _ _ h in
-      whole_body kind e h (rw t at r))
-      (cases_lt (length rest) (size kind))
-
-pub all_written : (orders : List Order) (place : ℕ) (bytes : List ℕ) → Bytes bytes → orders_from place 0 bytes ≡ Ok orders → (bytes ≡ file_of orders) × AllFit orders
+-- what is read as orders is these orders written down
+all_written : (orders : List Order) (place : ℕ) (bytes : List ℕ) → Bytes bytes → orders_from place 0 bytes ≡ Ok orders → (bytes ≡ file_of orders) × AllFit orders
 unfolding file_of orders_from
 all_written [] place [] u r = (refl, tt)
-all_written [] place (byte ∷ rest) u r =
-    let s = splits byte rest u.1 place [] (found byte kinds) refl r in
-    let e = s.both in
-    let z : ◌≡◌ {A = ℕ} 0 1 = cc in let y : ⊥ = omega arith in elim y [ ]
-all_written (order ∷ orders) place [] u r = let z : ◌≡◌ {A = ℕ} 0 1 = cc in let y : ⊥ = omega arith in elim y [ ]
-all_written (order ∷ orders) place (byte ∷ rest) u r =
-    let s = splits byte rest u.1 place (order ∷ orders) (found byte kinds) refl r in
-    let o : s.first ≡ order = let e = s.both in cc in
-    let os : s.others ≡ orders = let e = s.both in cc in
-    let n : ℕ = s.long in
-    let others = all_written orders (place + 1 + n) (drop n rest) (All-drop (λ d. d < 256) n rest u.1) (s.onward ∙ ap Ok os) in
-    let w : byte ∷ take n rest ≡ written order = s.bytes ∙ ap written o in (
-      ap (λ (xs : List ℕ). byte ∷ xs) (sym (take-append-drop n rest)) ∙ ap (λ (xs : List ℕ). xs ++ drop n rest) w ∙ ap (λ (xs : List ℕ). written order ++ xs) others.0,
-      (let P : Order → Type 0 = Fits in rw o at s.fits, others.1),
-    )
+all_written (order ∷ orders) place [] u r = absurd cc
+all_written [] place (byte ∷ bytes) u r =
+    let s = stepped_ok place (byte ∷ bytes) (first_order (found byte kinds) bytes) [] (sym (one_step place byte _ bytes refl _ refl) ∙ r) in
+    let e = s.3 in
+    absurd cc
+all_written (order ∷ orders) place (byte ∷ bytes) u r =
+    let s = stepped_ok place (byte ∷ bytes) (first_order (found byte kinds) bytes) (order ∷ orders) (sym (one_step place byte _ bytes refl _ refl) ∙ r) in
+    let w = first_written byte bytes u.1 s.0 s.2 in
+    let o : s.0.0 ≡ order = let e = s.3 in cc in
+    let os : s.1 ≡ orders = let e = s.3 in cc in
+    let others = all_written orders _ s.0.1 w.2 (s.4 ∙ ap Ok os) in
+    let fits : Fits s.0.0 = w.0 in
+    (w.1 ∙ ap (λ (x : Order). written x ++ s.0.1) o ∙ ap (λ (xs : List ℕ). written order ++ xs) others.0, (rw o at fits, others.1))
 
 -- WHOLE FILES
 
@@ -193,9 +129,9 @@ read_back orders fit h = short_reads (file_of orders) h ∙ read_all orders fit 
 
 pub nothing_else : (bytes : List ℕ) → Bytes bytes → (orders : List Order) → reading bytes ≡ Ok orders → FileOf bytes orders
 nothing_else bytes u orders e =
-    let h = accepted_short bytes orders e in
-    let w = all_written orders 0 bytes u (sym (short_reads bytes h) ∙ e) in
-    record { written_down = w.0; fit = w.1; short = h }
+    let s = accepted_short bytes orders e in
+    let w = all_written orders 0 bytes u s.1 in
+    record { written_down = w.0; fit = w.1; short = s.0 }
 
 pub reads_as : (bytes : List ℕ) (orders : List Order) → FileOf bytes orders → reading bytes ≡ Ok orders
 reads_as bytes orders f = let w = f.written_down in let h = f.short in ap reading w ∙ read_back orders f.fit (omega (arith, ap length w))

@@ -1,4 +1,3 @@
-pub mod Starts
 pub mod Walk
 pub mod Numbers
 pub mod Files

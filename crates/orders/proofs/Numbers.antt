@@ -22,7 +22,7 @@ number_of_bytes (suc width) n h =
 
 pub bytes_of_number : (width : ℕ) (bytes : List ℕ) → length bytes ≡ width → AllBelowBase 256 bytes → bytes_of width (number_from_digits 256 bytes) ≡ bytes
 bytes_of_number zero [] l u = refl
-bytes_of_number zero (b ∷ bytes) l u = let z : ⊥ = omega arith in elim z [ ]
+bytes_of_number zero (b ∷ bytes) l u = absurd (omega arith)
 bytes_of_number (suc width) bytes l u =
     let low : ℕ = get_or bytes width 0 in
     let high : List ℕ = take width bytes in
@@ -37,16 +37,16 @@ bytes_of_number (suc width) bytes l u =
 
 pub length_fields : (widths ns : List ℕ) → Fitting widths ns → length (fields widths ns) ≡ total widths
 length_fields [] [] f = refl
-length_fields [] (n ∷ ns) f = elim f [ ]
-length_fields (width ∷ widths) [] f = elim f [ ]
+length_fields [] (n ∷ ns) f = absurd f
+length_fields (width ∷ widths) [] f = absurd f
 length_fields (width ∷ widths) (n ∷ ns) f =
     length-append (bytes_of width n) (fields widths ns) ∙ omega (arith, length_bytes_of width n, length_fields widths ns f.1)
 
 -- the fields from a place on, `before` being what stands before them
 pub numbers_of_fields : (widths ns before : List ℕ) → Fitting widths ns → numbers (length before) widths (before ++ fields widths ns) ≡ ns
 numbers_of_fields [] [] before f = refl
-numbers_of_fields [] (n ∷ ns) before f = elim f [ ]
-numbers_of_fields (width ∷ widths) [] before f = elim f [ ]
+numbers_of_fields [] (n ∷ ns) before f = absurd f
+numbers_of_fields (width ∷ widths) [] before f = absurd f
 numbers_of_fields (width ∷ widths) (n ∷ ns) before f =
     let field : List ℕ = bytes_of width n in
     let rest : List ℕ = fields widths ns in

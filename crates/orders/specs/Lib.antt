@@ -1,6 +1,7 @@
 pub mod Kinds
 pub mod Reading
 pub mod RawOrders
+pub mod Walks
 pub mod Runs
 pub mod Files
 pub mod Law

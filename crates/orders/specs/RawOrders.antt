@@ -1,12 +1,12 @@
--- What the reader hands on: an order with its body still in bytes, and what that means.
-use Rattle.std.specs.Prelude.{◌≡◌, ℕ, ◌+◌, cond, List, length, take, drop, Some, None, Ok, Err, Option, Result, nat_lt}
-use Rattle.std.specs.Borrow.{Bor}
-use Rattle.rules.specs.declared.refusal.Refusal.TheVariants.{BodyCutShort}
+-- What the reader works with: the kinds by their names, and an order with its body still in bytes, and what these mean.
+use Rattle.std.specs.Prelude.{◌≡◌, ℕ, List, length, Some, None, Ok, Err, Option, Result}
+use Rattle.rules.specs.declared.refusal.Refusal.{Refusal}
+use Rattle.rules.specs.declared.refusal.Refusal.TheVariants.{UnknownKind}
 use Rattle.rules.specs.Orders.{Order}
-use Rattle.orders.specs.declared.fault.FileFault.{FileFault}
 use Rattle.orders.specs.declared.raw_order.RawOrder.{RawOrder}
 use Rattle.orders.specs.declared.raw_order.RawOrder.TheVariants.{Open, Mark, Position, Declare, Deposit, Withdraw, Suspend, Settle, Seize}
-use Rattle.orders.specs.Reading.{Reading, fault, entry_at}
+use Rattle.orders.specs.declared.order_kind.OrderKind.{OrderKind}
+use Rattle.orders.specs.declared.order_kind.OrderKind.TheVariants.{Open as OpenKind, Mark as MarkKind, Position as PositionKind, Declare as DeclareKind, Deposit as DepositKind, Withdraw as WithdrawKind, Suspend as SuspendKind, Settle as SettleKind, Seize as SeizeKind}
 use Rattle.orders.specs.Kinds.{Kind, size, order_in, open_kind, mark_kind, position_kind, declare_kind, deposit_kind, withdraw_kind, suspend_kind, settle_kind, seize_kind}
 
 -- its kind, and the bytes of its body
@@ -39,35 +39,25 @@ meant order = order_in (kind_read order) (body_read order)
 abbrev pub Whole : RawOrder → Type 0
 Whole order = length (body_read order) ≡ size (kind_read order)
 
--- THE STEPS OF THE READER, by the definitions of reading
+-- THE KINDS AS THE CODE NAMES THEM
 
--- the size of a body by what its kind byte stands for
-abbrev pub size_if : Option Kind → Option ℕ
-size_if None = None
-size_if (Some kind) = Some (size kind)
+-- the entry of the table for a name
+abbrev pub kind_named : OrderKind → Kind
+kind_named OpenKind = open_kind
+kind_named MarkKind = mark_kind
+kind_named PositionKind = position_kind
+kind_named DeclareKind = declare_kind
+kind_named DepositKind = deposit_kind
+kind_named WithdrawKind = withdraw_kind
+kind_named SuspendKind = suspend_kind
+kind_named SettleKind = settle_kind
+kind_named SeizeKind = seize_kind
 
--- the body alone of what stands at a place
-abbrev pub body_only : Result (Kind × List ℕ) FileFault → Result (List ℕ) FileFault
-body_only (Ok entry) = Ok entry.1
-body_only (Err f) = Err f
+-- what a kind byte stands for, by its name, and by the table
+abbrev pub named : Result OrderKind Refusal → Result Kind Refusal
+named (Ok name) = Ok (kind_named name)
+named (Err refusal) = Err refusal
 
-abbrev pub body_at : (place : ℕ) → Option Kind → (bytes : List ℕ) → Result (List ℕ) FileFault
-body_at place kind bytes = body_only (entry_at place kind bytes)
-
--- the same taken out of the whole file, for a body of some size
-abbrev pub body_of : (file : List ℕ) (place size : ℕ) → Result (List ℕ) FileFault
-body_of file place size = cond (nat_lt (length file) (place + 1 + size)) (Err (fault BodyCutShort place)) (Ok (take size (drop (place + 1) file)))
-
--- a part of the file by its bytes, and an order with the size of its body by its meaning
-abbrev pub bytes_read : Result (Bor (List ℕ)) FileFault → Result (List ℕ) FileFault
-bytes_read (Ok part) = Ok part.now
-bytes_read (Err f) = Err f
-
-abbrev pub told : Result (RawOrder × ℕ) FileFault → Result (Order × ℕ) FileFault
-told (Ok first) = Ok (meant first.0, first.1)
-told (Err f) = Err f
-
--- how many orders are read, n having been read already
-abbrev pub counted : (n : ℕ) → Reading → Result ℕ FileFault
-counted n (Ok orders) = Ok (n + length orders)
-counted n (Err f) = Err f
+abbrev pub known : Option Kind → Result Kind Refusal
+known (Some kind) = Ok kind
+known None = Err UnknownKind

@@ -1,13 +1,67 @@
 // The numbers in the fields of a body, highest byte first.
-ghost use Rattle.std.specs.Prelude.{◌≡◌, ℕ, ◌+◌, ◌≤◌, length};
+ghost use Rattle.std.specs.Prelude.{◌≡◌, ℕ, ◌+◌, ◌≤◌, length, take, drop};
 ghost use Rattle.orders.specs.Kinds.{number_at};
 
-/// The number in the field of one byte at a place of a body.
-pub(crate) fn u8_at(body: &[u8], from: usize) -> u8
-    requires { from + 1 ≤ length body.now }
-    ensures { result ≡ number_at body.now from 1 }
+/// A number that a field can hold.
+pub(crate) trait Field: Sized {
+    /// How many bytes a field for it takes.
+    ghost width: { ℕ };
+
+    /// The number that a value is.
+    ghost number: { Self → ℕ };
+
+    /// The number in the field at a place of a body.
+    fn at(body: &[u8], from: usize) -> Self
+        requires { from + width ≤ length body.now }
+        ensures { number result ≡ number_at body.now from width };
+}
+
+impl Field for u8 {
+    ghost width = { 1 };
+
+    ghost number = { λ n. n };
+
+    fn at(body: &[u8], from: usize) -> u8 {
+        body[from]
+    }
+}
+
+impl Field for u16 {
+    ghost width = { 2 };
+
+    ghost number = { λ n. n };
+
+    fn at(body: &[u8], from: usize) -> u16 {
+        u16::from_be_bytes(bytes_at(body, from))
+    }
+}
+
+impl Field for u32 {
+    ghost width = { 4 };
+
+    ghost number = { λ n. n };
+
+    fn at(body: &[u8], from: usize) -> u32 {
+        u32::from_be_bytes(bytes_at(body, from))
+    }
+}
+
+impl Field for u64 {
+    ghost width = { 8 };
+
+    ghost number = { λ n. n };
+
+    fn at(body: &[u8], from: usize) -> u64 {
+        u64::from_be_bytes(bytes_at(body, from))
+    }
+}
+
+/// The bytes from a place of a body on, as many as are asked for.
+fn bytes_at<const N: usize>(body: &[u8], from: usize) -> [u8; N]
+    requires { from + N ≤ length body.now }
+    ensures { result ≡ take N (drop from body.now) }
 {
-    body[from]
+    *body[from..].first_chunk().unwrap()
 }
 
 /// The account that the field of one byte at a place of a body names.
@@ -15,35 +69,5 @@ pub(crate) fn account_at(body: &[u8], from: usize) -> u16
     requires { from + 1 ≤ length body.now }
     ensures { result ≡ number_at body.now from 1 }
 {
-    u16::from(u8_at(body, from))
-}
-
-/// The number in the field of two bytes at a place of a body.
-pub(crate) fn u16_at(body: &[u8], from: usize) -> u16
-    requires { from + 2 ≤ length body.now }
-    ensures { result ≡ number_at body.now from 2 }
-{
-    let mut field = [0; 2];
-    field.copy_from_slice(&body[from..from + 2]);
-    u16::from_be_bytes(field)
-}
-
-/// The number in the field of four bytes at a place of a body.
-pub(crate) fn u32_at(body: &[u8], from: usize) -> u32
-    requires { from + 4 ≤ length body.now }
-    ensures { result ≡ number_at body.now from 4 }
-{
-    let mut field = [0; 4];
-    field.copy_from_slice(&body[from..from + 4]);
-    u32::from_be_bytes(field)
-}
-
-/// The number in the field of eight bytes at a place of a body.
-pub(crate) fn u64_at(body: &[u8], from: usize) -> u64
-    requires { from + 8 ≤ length body.now }
-    ensures { result ≡ number_at body.now from 8 }
-{
-    let mut field = [0; 8];
-    field.copy_from_slice(&body[from..from + 8]);
-    u64::from_be_bytes(field)
+    u16::from(u8::at(body, from))
 }

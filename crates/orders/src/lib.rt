@@ -4,9 +4,10 @@
 pub mod accepted;
 pub mod fault;
 mod fields;
+mod file_order;
 pub mod law;
 pub mod limits;
-mod performing;
+mod order_kind;
 mod raw_order;
 mod reading;
 pub mod run;

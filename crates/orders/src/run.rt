@@ -1,22 +1,22 @@
 ghost use Rattle.std.specs.Prelude.{◌≡◌, ℕ, true, length, is_ok};
-ghost use Rattle.orders.specs.Runs.{admitted, answered, state_after, list_after};
+ghost use Rattle.orders.specs.Runs.{with_places, admitted, answered, state_after, list_after};
+ghost use Rattle.orders.specs.Walks.{orders_in};
 
 use crate::accepted::Accepted;
 use crate::fault::FileFault;
-use crate::limits::MOST_BYTES;
-use crate::performing::perform;
-use crate::reading::{count, read};
+use crate::reading::OrderFile;
 use book::orders::MarginBook;
 use rules::refusal::Refusal;
 
 /// Looks through a file that is to be answered in so many places, and tells why it is refused, if it is.
-fn check(file: &[u8], places: usize) -> Result<Accepted, FileFault>
-    ensures { result ≡ answered (admitted file.now places) }
+fn check(file: OrderFile, places: usize) -> Result<Accepted, FileFault>
+    ensures { result ≡ answered (with_places places (orders_in file.entry)) }
 {
-    if file.len() > MOST_BYTES {
-        return Err(FileFault::new(Refusal::FileTooLong, MOST_BYTES));
+    let mut orders = 0;
+    for order in file.orders() {
+        order?;
+        orders += 1;
     }
-    let orders = count(file)?;
     if places < orders {
         return Err(FileFault::new(Refusal::AnswerListTooShort, orders));
     }
@@ -24,21 +24,22 @@ fn check(file: &[u8], places: usize) -> Result<Accepted, FileFault>
 }
 
 /// Performs the orders of an admitted file one after the other, and answers each in its place of the list.
-fn perform_all<B: MarginBook>(book: &mut B, file: &[u8], answers: &mut [u8])
-    requires { is_ok (admitted file.now (length answers.old)) ≡ true }
-    ensures state { B.MarginBook.state book.new ≡ state_after (B.MarginBook.terms book.old) (B.MarginBook.state book.old) (admitted file.now (length answers.old)) }
-    ensures list { answers.new ≡ list_after (B.MarginBook.terms book.old) (B.MarginBook.state book.old) answers.old (admitted file.now (length answers.old)) }
+#[tactic(auto, using(crate::proofs::Going::done, crate::proofs::Going::no_more))]
+fn perform_all<B: MarginBook>(book: &mut B, file: OrderFile, answers: &mut [u8])
+    requires { is_ok (with_places (length answers.old) (orders_in file)) ≡ true }
+    ensures state { B.MarginBook.state book.new ≡ state_after (B.MarginBook.terms book.old) (B.MarginBook.state book.old) (orders_in file.entry) }
+    ensures list { answers.new ≡ list_after (B.MarginBook.terms book.old) (B.MarginBook.state book.old) answers.old (orders_in file.entry) }
     ensures same { B.MarginBook.terms book.new ≡ B.MarginBook.terms book.old }
 {
-    let mut place = 0;
-    let mut done = 0;
-    while place < file.len() {
-        let Ok((order, size)) = read(file, place) else {
-            unreachable()
+    let mut orders = file.orders();
+    // The orders are not zipped with the list: the check has no proof yet for an iterator that holds a `&mut` beside a
+    // struct with a ghost field.
+    for answer in answers.iter_mut() {
+        // An admitted file has no fault, so where no order comes it is at its end.
+        let Some(Ok(order)) = orders.next() else {
+            break;
         };
-        perform(book, order, answers, done);
-        place += 1 + size;
-        done += 1;
+        *answer = order.perform(book);
     }
 }
 
@@ -61,6 +62,7 @@ pub fn run<B: MarginBook>(
     ensures list { answers.new ≡ list_after (B.MarginBook.terms book.old) (B.MarginBook.state book.old) answers.old (admitted file.now (length answers.old)) }
     ensures same { B.MarginBook.terms book.new ≡ B.MarginBook.terms book.old }
 {
+    let file = OrderFile::new(file)?;
     let accepted = check(file, answers.len())?;
     perform_all(book, file, answers);
     Ok(accepted)

@@ -1,32 +1,18 @@
-use Rattle.std.proofs.Common.{refl, ◌∙◌}
-use Rattle.orders.proofs.Going.{begun, no_fault, room, onward, run_whole, list_filled}
+use Rattle.std.proofs.Common.{◌<◌, length, ◌∙◌}
+use Rattle.orders.specs.RawOrders.{meant}
+use Rattle.std.proofs.lemmas.List.{set-get_or}
+use Rattle.orders.proofs.Going.{onward, done}
 use Rattle.orders.proofs.run.perform_all.Goals as goal
 
-pub loop-place-init : goal.loop-place-init
-loop-place-init g c = (begun _ _ _ _ c.requires, refl)
-
-pub unreachable-requires : goal.unreachable-requires
-unreachable-requires g c = no_fault _ _ _ _ _ _ _ _ c.loop-place.invariant.0 c.loop-place-test.true _ c.in_default.ensures.reads
-
-pub perform-requires : goal.perform-requires
-perform-requires g c = record {
-  whole = c.in-Ok.ensures.whole.1;
-  room = room _ _ _ _ _ _ _ _ c.loop-place.invariant.0 c.loop-place-test.true _ _ c.in-Ok.ensures.reads;
-}
-
-pub loop-place-preserved : goal.loop-place-preserved
-loop-place-preserved g c =
-    let i = c.loop-place.invariant in (
-      onward _ _ _ _ _ _ _ _ i.0 c.loop-place-test.true _ _ c.in-Ok.ensures.reads (g.B.MarginBook.terms c.loop-place.book) i.1 _ _ c.perform.ensures.list
-          c.perform.ensures.state c.in-Ok.ensures.whole.0,
+pub loop-answer-preserved : goal.loop-answer-preserved
+loop-answer-preserved g c =
+    let i = c.loop-answer.invariant in
+    let more : c.loop-answer.answer-index < length c.loop-answer.answers = rw c.loop-answer.auto.answers c.loop-answer-test.true in (
+      onward (meant c.in-Some-Ok.order.raw) c.perform.result i.0 (rw c.in-Some-Ok.field-0-is at c.in-Some-Ok.ensures.steps) more i.1 c.perform.ensures.state c.perform.ensures.number,
       c.perform.ensures.same ∙ i.1,
     )
 
-pub returns : goal.returns
-returns g c =
-    let i = c.loop-place.invariant in
-    record {
-      state = run_whole _ _ _ _ _ _ _ _ i.0 c.loop-place-test.false;
-      list = list_filled _ _ _ _ _ _ _ _ i.0 c.loop-place-test.false;
-      same = i.1;
-    }
+-- the place of which nothing came is as it was
+pub returns-in_default-2-clause-list : goal.returns-in_default-2-clause-list
+returns-in_default-2-clause-list g c =
+    set-get_or c.loop-answer.answers c.loop-answer.answer-index 0 ∙ (done c.loop-answer.invariant.0 (rw c.in_default.is at c.next.ensures.steps).0).1
