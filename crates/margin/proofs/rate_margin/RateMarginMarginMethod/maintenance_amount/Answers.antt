@@ -8,7 +8,7 @@ overflow_add-sum g c =
     let counts = c.args.counts.now in
     let rates = c.args.self.now.rates in
     let few : c.asked-sum.result ≤ most_asked =
-      rw c.asked-sum.ensures (asked_at_most g.Way.LotCounting.counted g.Way.LotCounting.laws rates.each rates.fair counts.counts counts.countable c.loop-contract.contract c.loop-contract-test.true) in
+    rw c.asked-sum.ensures (asked_at_most g.Way.LotCounting.counted g.Way.LotCounting.laws rates.each rates.fair counts.counts counts.countable c.loop-contract.contract c.loop-contract-test.true) in
     omega (arith, few)
 
 pub loop-contract-preserved : goal.loop-contract-preserved
@@ -16,5 +16,5 @@ loop-contract-preserved g c =
     let counts = c.args.counts.now in
     let rates = c.args.self.now.rates in
     let few : c.asked-sum.result ≤ most_asked =
-      rw c.asked-sum.ensures (asked_at_most g.Way.LotCounting.counted g.Way.LotCounting.laws rates.each rates.fair counts.counts counts.countable c.loop-contract.contract c.loop-contract-test.true) in
+    rw c.asked-sum.ensures (asked_at_most g.Way.LotCounting.counted g.Way.LotCounting.laws rates.each rates.fair counts.counts counts.countable c.loop-contract.contract c.loop-contract-test.true) in
     (sum_turn _ _ _ _ c.loop-contract.invariant.0 c.asked-sum.ensures, omega (arith, few))
