@@ -1,6 +1,6 @@
 -- Numbers as eight bytes in memory.
 use Rattle.std.proofs.Common.{◌≡◌, ℕ, ◌+◌, ◌*◌, ◌^◌, ◌<◌, ◌≤◌, cond, eqb, ◌≢◌, List, ◌++◌, length, get_or, take, drop, replicate, sym, refl, ap, ◌∙◌, ⊎_elim, arith}
-use Rattle.std.proofs.lemmas.List.{length-append, length-drop, length-take, length-replicate, drop_at, drop-append-le, drop-replicate, take-append-le, take-replicate, get_or-take, same_lists, places}
+use Rattle.std.proofs.lemmas.List.{length-append, length-drop, length-take, length-replicate, drop_at, take_at, drop-append-le, drop-replicate, take-append-le, take-replicate, get_or-take, same_lists, places}
 use Rattle.std.proofs.lemmas.Bool.{cases_eq, eq-eqb, ne_eqb}
 use Rattle.custody.specs.Pages.{word, bytes_of, word_at, stored, room, page_layout}
 
@@ -10,33 +10,21 @@ word_bytes n h = omega arith
 pub bytes_stored : (bytes : List ℕ) (b n : ℕ) → b < room bytes → length (stored bytes b n) ≡ length bytes
 bytes_stored bytes b n h = simp (length-append, length-take, length-drop) (omega arith)
 
--- n is stored for box b
-module _ (bytes : List ℕ) (b n : ℕ) (inside : b < room bytes) where
-  word_same : n < 2 ^ 64 → word_at (stored bytes b n) b ≡ n
-  word_same h =
-      let l : length (take (b * 8) bytes) ≡ b * 8 = simp length-take (omega arith) in
-      ap (λ (z : List ℕ). word (take 8 z)) (drop_at (take (b * 8) bytes) (bytes_of n ++ drop (b * 8 + 8) bytes) (b * 8) l) ∙ word_bytes n h
+-- a part that is written is read again, and a part beside it is as it was: w is a variable, so that `take` does not compute
+part_same : (w i : ℕ) (ys bytes : List ℕ) → length ys ≡ w → i ≤ length bytes → take w (drop i (take i bytes ++ (ys ++ drop (i + w) bytes))) ≡ ys
+part_same w i ys bytes l h =
+    let m : length (take i bytes) ≡ i = simp length-take (omega arith) in
+    ap (take w) (drop_at (take i bytes) (ys ++ drop (i + w) bytes) i m) ∙ take_at ys (drop (i + w) bytes) w l
 
-  part_long : (k : ℕ) → k < room bytes → length (take 8 (drop (k * 8) (stored bytes b n))) ≡ length (take 8 (drop (k * 8) bytes))
-  part_long k h = simp (length-take, length-drop, bytes_stored) (omega arith)
-
-  -- any eight bytes in place of the number's
-  part_at : (ys : List ℕ) (k : ℕ) → length ys ≡ 8 → k ≢ b → k < room bytes → (i d : ℕ) → i < 8
-      → get_or (drop (k * 8) (take (b * 8) bytes ++ (ys ++ drop (b * 8 + 8) bytes))) i d ≡ get_or (drop (k * 8) bytes) i d
-  part_at ys k long e h i d l = grind (arith, places)
-
-  word_other : (k : ℕ) → k ≢ b → k < room bytes → word_at (stored bytes b n) k ≡ word_at bytes k
-  word_other k e h =
-      ap word (same_lists _ _ (part_long k h)
-      (λ i d l.
-      let m : i < 8 = omega (arith, simp (length-take, length-drop, bytes_stored) at l) in
-      get_or-take 8 (drop (k * 8) (stored bytes b n)) i d m ∙ part_at (bytes_of n) k refl e h i d m ∙ sym (get_or-take 8 (drop (k * 8) bytes) i d m)))
+part_other : (w i j : ℕ) (ys bytes : List ℕ) → length ys ≡ w → i + w ≤ length bytes → j + w ≤ length bytes → (j < i + w → j + w ≤ i)
+    → take w (drop j (take i bytes ++ (ys ++ drop (i + w) bytes))) ≡ take w (drop j bytes)
+part_other w i j ys bytes l h m apart = same_lists _ _ (simp (length-take, length-drop, length-append) (omega arith)) (λ k d n. grind (arith, places))
 
 pub word_stored : (bytes : List ℕ) (b n k : ℕ) → b < room bytes → n < 2 ^ 64 → k < room bytes → word_at (stored bytes b n) k ≡ cond (eqb k b) n (word_at bytes k)
 word_stored bytes b n k inside fits within =
     ⊎_elim
-    (λ (e : k ≡ b). rw (eq-eqb k b e, e) (word_same bytes b n inside fits))
-    (λ e. rw (ne_eqb k b e) (word_other bytes b n inside k e within))
+    (λ (e : k ≡ b). rw (eq-eqb k b e, e) (ap word (part_same 8 (b * 8) (bytes_of n) bytes refl (omega arith)) ∙ word_bytes n fits))
+    (λ e. rw (ne_eqb k b e) (ap word (part_other 8 (b * 8) (k * 8) (bytes_of n) bytes refl (omega arith) (omega arith) (λ h. omega arith))))
     (cases_eq k b)
 
 pub bytes_cleared : (bytes : List ℕ) (n : ℕ) → n ≤ room bytes → length (page_layout.cleared bytes n) ≡ length bytes

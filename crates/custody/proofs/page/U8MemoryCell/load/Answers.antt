@@ -22,5 +22,5 @@ returns c =
     = same ∙ ap (λ (l : List (List ℕ)). get_or l b []) c.as_chunks.ensures.front ∙ chunk_at 8 (length bytes / 8) b bytes (omega arith) in
     let long : length found ≡ 8 = rw part (simp (length-take, length-drop) (omega arith)) in
     let all = ap word (eight_items found long) in
-    let read : c.from_be_bytes.result ≡ word (take 8 (drop (b * 8) bytes)) = omega arith ∙ ap word part in
-    search rules
+    let whole = ap word part in
+    grind arith
