@@ -1,6 +1,6 @@
 -- Numbers as eight bytes in memory.
-use Rattle.std.proofs.Common.{◌≡◌, ℕ, ◌+◌, ◌*◌, ◌^◌, ◌<◌, ◌≤◌, cond, eqb, ◌≢◌, List, ◌++◌, length, get_or, take, drop, replicate, sym, refl, ap, ◌∙◌, ⊎_elim, arith}
-use Rattle.std.proofs.lemmas.List.{length-append, length-drop, length-take, length-replicate, drop_at, take_at, drop-append-le, drop-replicate, take-append-le, take-replicate, get_or-take, same_lists, places}
+use Rattle.std.proofs.Common.{◌≡◌, ℕ, ◌+◌, ◌*◌, ◌^◌, ◌<◌, ◌≤◌, cond, eqb, List, ◌++◌, length, take, drop, replicate, refl, ap, ◌∙◌, ⊎_elim, arith}
+use Rattle.std.proofs.lemmas.List.{length-append, length-drop, length-take, length-replicate, drop_at, take_at, drop-append-le, drop-replicate, take-append-le, take-replicate, same_lists, places}
 use Rattle.std.proofs.lemmas.Bool.{cases_eq, eq-eqb, ne_eqb}
 use Rattle.custody.specs.Pages.{word, bytes_of, word_at, stored, room, page_layout}
 

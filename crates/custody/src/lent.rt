@@ -38,9 +38,10 @@ impl<C: MemoryCell> Custodian for LentCustodian<'_, C> {
     }
 
     fn held(&self, box_number: usize) -> u64 {
-        C::load(self.memory, box_number)
-            .unwrap_or(0)
-            .min(self.limit(box_number))
+        match C::load(self.memory, box_number) {
+            Some(number) if box_number < BOXES => number.min(MOST_UNITS),
+            _ => 0,
+        }
     }
 
     fn limit(&self, box_number: usize) -> u64 {

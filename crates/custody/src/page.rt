@@ -23,6 +23,7 @@ impl MemoryCell for u8 {
     }
 
     fn store(memory: &mut [u8], box_number: usize, number: u64) {
+        // Not `as_chunks_mut`: its contract does not say what the slice is once a chunk is written.
         if box_number < Self::room(memory) {
             let start = box_number * 8;
             memory[start..start + 8].copy_from_slice(&number.to_be_bytes());

@@ -21,6 +21,7 @@ impl MemoryCell for u64 {
     }
 
     fn store(memory: &mut [u64], box_number: usize, number: u64) {
+        // Not `get_mut`: its contract does not say what the slice is once the number is written.
         if box_number < memory.len() {
             memory[box_number] = number;
         }
