@@ -13,8 +13,8 @@ pub record Layout (Cell : Type 0) : Type 0 where
   pub stored : List Cell → (b n : ℕ) → List Cell
   pub cleared : List Cell → (n : ℕ) → List Cell
 
--- What is true of every layout: a number is read as it was written, for as many boxes as before, and a write for one
--- box changes the number of no other.
+-- What a layout has to keep: a number is read as it was written, a write for one box changes the number of no other, and
+-- no write makes room for more boxes or fewer.
 pub record LawfulLayout {Cell : Type 0} (layout : Layout Cell) : Type 0 where
   pub room_stored : (memory : List Cell) (b n : ℕ) → b < layout.room memory → layout.room (layout.stored memory b n) ≡ layout.room memory
   pub number_stored : (memory : List Cell) (b n k : ℕ) → b < layout.room memory → n < 2 ^ 64 → k < layout.room memory

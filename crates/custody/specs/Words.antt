@@ -1,4 +1,4 @@
--- Numbers as eight bytes in memory.
+-- Numbers as eight bytes in memory are read as they were written.
 use Rattle.std.proofs.Common.{◌≡◌, ℕ, ◌+◌, ◌*◌, ◌^◌, ◌<◌, ◌≤◌, cond, eqb, List, ◌++◌, length, take, drop, replicate, refl, ap, ◌∙◌, ⊎_elim, arith}
 use Rattle.std.proofs.lemmas.List.{length-append, length-drop, length-take, length-replicate, drop_at, take_at, drop-append-le, drop-replicate, take-append-le, take-replicate, same_lists, places}
 use Rattle.std.proofs.lemmas.Bool.{cases_eq, eq-eqb, ne_eqb}
@@ -10,7 +10,8 @@ word_bytes n h = omega arith
 pub bytes_stored : (bytes : List ℕ) (b n : ℕ) → b < room bytes → length (stored bytes b n) ≡ length bytes
 bytes_stored bytes b n h = simp (length-append, length-take, length-drop) (omega arith)
 
--- a part that is written is read again, and a part beside it is as it was: w is a variable, so that `take` does not compute
+-- A part that is written is read again, and a part beside it is as it was: w is a variable, so that `take` does not
+-- compute.
 part_same : (w i : ℕ) (ys bytes : List ℕ) → length ys ≡ w → i ≤ length bytes → take w (drop i (take i bytes ++ (ys ++ drop (i + w) bytes))) ≡ ys
 part_same w i ys bytes l h =
     let m : length (take i bytes) ≡ i = simp length-take (omega arith) in

@@ -45,7 +45,7 @@ impl<Cell: MemoryCell> Custodian for LentCustodian<'_, Cell> {
     }
 
     fn limit(&self, box_number: usize) -> u64 {
-        let has_number = box_number < Cell::room(self.memory).min(BOXES);
+        let has_number = box_number < BOXES && box_number < Cell::room(self.memory);
         if has_number { MOST_UNITS } else { 0 }
     }
 
