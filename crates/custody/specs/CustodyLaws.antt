@@ -1,12 +1,13 @@
--- Registers, pages and splits keep the laws of a custodian.
-use Rattle.std.specs.Prelude.{◌≡◌, ℕ, ◌≤◌, Bool, true, false, cond, ltb, List, length, nat_lt}
+-- Custodians over lent memory, registers and pages among them, and splits keep the laws of a custodian.
+use Rattle.std.specs.Prelude.{◌≡◌, ℕ, ◌≤◌, Bool, true, false, cond, ltb, List, nat_lt}
 use Rattle.std.proofs.Common.{arith}
 use Rattle.std.proofs.lemmas.Bool.{le-ltb}
 use Rattle.rules.specs.Sizes.{boxes as box_count, most_units}
 use Rattle.custody.specs.Boxes.{Boxes, Lawful}
 use Rattle.custody.specs.Served.{served, limit_of}
-use Rattle.custody.specs.Registers.{register}
-use Rattle.custody.specs.Pages.{room, page}
+use Rattle.custody.specs.Layouts.{Layout, boxes_of}
+use Rattle.custody.specs.Registers.{register, register_layout}
+use Rattle.custody.specs.Pages.{page, page_layout}
 use Rattle.custody.specs.Splits.{of_yen, split}
 
 pub limit_bounded : (n b : ℕ) → limit_of n b ≤ most_units
@@ -15,19 +16,18 @@ limit_bounded n b = elim (nat_lt b (served n)) as (λ t. cond t most_units 0 ≤
 pub no_limit_beyond : (n b : ℕ) → box_count ≤ b → limit_of n b ≡ 0
 no_limit_beyond n b h = let f : ltb b (served n) ≡ false = le-ltb b (served n) (omega arith) in rw f
 
-pub register_lawful : {S : Type 0} (cells : S → List ℕ) → Lawful (λ s. register (cells s))
-register_lawful cells = record {
-  bounded = λ s. limit_bounded (length (cells s));
-  none_beyond = λ s. no_limit_beyond (length (cells s));
+pub lent_lawful : {S Cell : Type 0} (layout : Layout Cell) (memory : S → List Cell) → Lawful (λ s. boxes_of layout (memory s))
+lent_lawful layout memory = record {
+  bounded = λ s. limit_bounded (layout.room (memory s));
+  none_beyond = λ s. no_limit_beyond (layout.room (memory s));
   within = λ s b. omega arith;
 }
 
+pub register_lawful : {S : Type 0} (cells : S → List ℕ) → Lawful (λ s. register (cells s))
+register_lawful = lent_lawful register_layout
+
 pub page_lawful : {S : Type 0} (bytes : S → List ℕ) → Lawful (λ s. page (bytes s))
-page_lawful bytes = record {
-  bounded = λ s. limit_bounded (room (bytes s));
-  none_beyond = λ s. no_limit_beyond (room (bytes s));
-  within = λ s b. omega arith;
-}
+page_lawful = lent_lawful page_layout
 
 -- what holds of both sides holds of the side that has the box
 either : (t : Bool) (P : ℕ → Type 0) (x y : ℕ) → P x → P y → P (cond t x y)

@@ -1,8 +1,11 @@
 pub mod Boxes
 pub mod Moves
 pub mod Served
+pub mod Layouts
 pub mod Registers
 pub mod Pages
+pub mod Words
+pub mod LayoutLaws
 pub mod Splits
 pub mod CustodyLaws
 pub mod Remembered

@@ -1,9 +1,8 @@
 -- The byte page: what a memory of bytes means as boxes, and what it holds after each call. Bytes 8 × b to 8 × b + 7 of
 -- the memory are the number of box b, highest byte first.
-use Rattle.std.specs.Prelude.{ℕ, ◌+◌, ◌-◌, ◌*◌, ◌/◌, ◌%◌, min, cond, List, [], ◌∷◌, ◌++◌, length, take, drop, replicate, fold, ◌==◌}
+use Rattle.std.specs.Prelude.{ℕ, ◌+◌, ◌*◌, ◌/◌, ◌%◌, List, [], ◌∷◌, ◌++◌, length, take, drop, replicate, fold}
 use Rattle.custody.specs.Boxes.{Boxes}
-use Rattle.custody.specs.Served.{served, limit_of}
-use Rattle.custody.specs.Moves.{passes_limit, passes_holding}
+use Rattle.custody.specs.Layouts.{Layout, boxes_of, cleared_memory, put_memory, take_memory}
 
 -- the number that bytes write, and the eight bytes that write a number
 abbrev pub word : List ℕ → ℕ
@@ -21,20 +20,22 @@ word_at bytes b = word (take 8 (drop (b * 8) bytes))
 abbrev pub stored : List ℕ → (b n : ℕ) → List ℕ
 stored bytes b n = take (b * 8) bytes ++ (bytes_of n ++ drop (b * 8 + 8) bytes)
 
--- only a box with all of its eight bytes in memory is served; a stored number above the limit reads as the limit
+-- only a box with all of its eight bytes in memory is served
 abbrev pub room : List ℕ → ℕ
 room bytes = length bytes / 8
 
+-- a part of a box at the end, and bytes past the last box, are never written
+abbrev pub page_layout : Layout ℕ
+page_layout = record { room = room; number = word_at; stored = stored; cleared = λ bytes n. replicate (n * 8) 0 ++ drop (n * 8) bytes }
+
 abbrev pub page : List ℕ → Boxes
-page bytes = record { limit = limit_of (room bytes); held = λ b. min (word_at bytes b) (limit_of (room bytes) b) }
+page = boxes_of page_layout
 
--- Clear writes 0 for every box that is served; a part of a box at the end, and bytes past the last box, stay.
 abbrev pub cleared_page : List ℕ → List ℕ
-cleared_page bytes = replicate (served (room bytes) * 8) 0 ++ drop (served (room bytes) * 8) bytes
+cleared_page = cleared_memory page_layout
 
--- Put and take write the new holding of their box; a refusal and 0 units write nothing.
 abbrev pub put_page : List ℕ → (b units : ℕ) → List ℕ
-put_page bytes b units = cond (passes_limit (page bytes) b units) bytes (cond (units == 0) bytes (stored bytes b ((page bytes).held b + units)))
+put_page = put_memory page_layout
 
 abbrev pub take_page : List ℕ → (b units : ℕ) → List ℕ
-take_page bytes b units = cond (passes_holding (page bytes) b units) bytes (cond (units == 0) bytes (stored bytes b ((page bytes).held b - units)))
+take_page = take_memory page_layout

@@ -39,6 +39,7 @@ impl<First: Custodian, Second: Custodian> Custodian for SplitCustodian<First, Se
         self.second.clear();
     }
 
+    // Each call chooses its side itself: the sides differ in type, so a helper would take every call twice, as two closures.
     fn held(&self, box_number: usize) -> u64 {
         if of_yen(box_number) {
             self.first.held(box_number)

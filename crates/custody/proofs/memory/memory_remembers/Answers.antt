@@ -1,26 +1,19 @@
-use Rattle.std.proofs.Common.{◌≡◌, ◌<◌, length, set, ⊎_elim, arith}
-use Rattle.std.proofs.lemmas.List.{length-set, get_or-set_same, get_or-set_other}
-use Rattle.std.proofs.lemmas.Bool.{cases_eq, eq-eqb, ne_eqb, lt-ltb, cond-true}
+use Rattle.std.proofs.Common.{◌≡◌, ℕ, ◌<◌, ◌≤◌, List, cond, eqb, ap, arith}
 use Rattle.rules.specs.Sizes.{most_units}
 use Rattle.custody.specs.Served.{served, limit_of}
-use Rattle.custody.specs.Registers.{register}
-use Rattle.custody.specs.Pages.{room, page, stored}
-use Rattle.custody.specs.Remembered.{Remembers}
-use Rattle.custody.proofs.Words.{held_stored}
+use Rattle.custody.specs.Layouts.{Layout, LawfulLayout, boxes_of}
+use Rattle.custody.specs.LayoutLaws.{register_layout_lawful, page_layout_lawful}
+use Rattle.custody.specs.Registers.{register_layout}
+use Rattle.custody.specs.Pages.{page_layout}
 use Rattle.custody.proofs.memory.memory_remembers.Goals as goal
 
-by_registers : Remembers register length set
-by_registers cells b n h most k =
-    ⊎_elim
-    (λ (e : k ≡ b).
-    let inside : b < length cells = omega arith in
-    let l : limit_of (length cells) b ≡ most_units = cond-true _ _ _ (lt-ltb b (served (length cells)) h) in
-    rw (eq-eqb k b e, e, length-set, get_or-set_same cells b n 0 inside, l) (omega arith))
-    (λ e. rw (ne_eqb k b e, length-set, get_or-set_other cells b k n 0 e))
-    (cases_eq k b)
-
-by_pages : Remembers page room stored
-by_pages bytes b n h most k = held_stored bytes b n (omega arith) (omega arith) most k
+-- what each box holds once n is stored for box b, whatever the layout
+held_stored : {Cell : Type 0} (layout : Layout Cell) → LawfulLayout layout → (memory : List Cell) (b n : ℕ) → b < served (layout.room memory) → n ≤ most_units
+    → (k : ℕ) → (boxes_of layout (layout.stored memory b n)).held k ≡ cond (eqb k b) n ((boxes_of layout memory).held k)
+held_stored layout laws memory b n inside most k =
+    let same = ap (λ (r : ℕ). limit_of r k) (laws.room_stored memory b n (omega arith)) in
+    let number = laws.number_stored memory b n k (omega arith) (omega arith) in
+    grind arith
 
 pub returns : goal.returns
-returns c = record { by_registers = by_registers; by_pages = by_pages }
+returns c = record { by_registers = held_stored register_layout register_layout_lawful; by_pages = held_stored page_layout page_layout_lawful }

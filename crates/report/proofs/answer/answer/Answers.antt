@@ -9,5 +9,5 @@ returns-in_err-bytes c = IfOk-from_err _ _ c.from_residual-in_err-bytes.ensures.
 pub print_fresh-requires : goal.print_fresh-requires
 print_fresh-requires c =
     whole_room _ _
-    (ap (λ r. length r.cells.now) c.new.ensures.first ∙ ap length c.new-register.ensures.memory ∙ c.as_mut_slice.ensures.len ∙ c.in_ok-numbers.ensures)
-    (ap (λ p. length p.bytes.now) c.new.ensures.second ∙ ap length c.new-page.ensures.memory ∙ c.as_mut_slice-2.ensures.len ∙ c.in_ok-bytes.ensures)
+    (ap (λ r. length r.memory.now) c.new.ensures.first ∙ ap length c.new-register.ensures.memory ∙ c.as_mut_slice.ensures.len ∙ c.in_ok-numbers.ensures)
+    (ap (λ p. length p.memory.now) c.new.ensures.second ∙ ap length c.new-page.ensures.memory ∙ c.as_mut_slice-2.ensures.len ∙ c.in_ok-bytes.ensures)
