@@ -23,7 +23,9 @@ impl<B: MarginBook> fmt::Display for Report<'_, B> {
     ghost output = { λ told. Some (report told.answers.now (B.MarginBook.state told.book.now)) };
 
     fn fmt<W: fmt::Write>(&self, f: &mut fmt::Formatter<W>) -> fmt::Result {
-        let orders = OrderLines { answers: self.answers };
+        let orders = OrderLines {
+            answers: self.answers,
+        };
         let accounts = AccountLines { book: self.book };
         let participants = ParticipantLines { book: self.book };
         write!(f, "{orders}{accounts}{participants}")
@@ -41,10 +43,11 @@ pub(crate) fn print_run<B: MarginBook>(
     let mut places = vec![in heap; 0u8; PLACES]?;
     let answers = places.as_mut_slice();
     match run(book, file, answers) {
-        Ok(Accepted { orders }) => {
-            let answers = &answers[..orders];
-            format!(in heap; "{}", Report { answers, book })
+        Ok(Accepted { orders }) => Report {
+            answers: &answers[..orders],
+            book,
         }
+        .to_string(heap),
         Err(fault) => format!(in heap; "FILE {} {}\n", fault.refusal.number(), fault.place),
     }
 }

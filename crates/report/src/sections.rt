@@ -33,6 +33,7 @@ pub(crate) struct AccountLines<'a, B> {
 impl<B: MarginBook> fmt::Display for AccountLines<'_, B> {
     ghost output = { λ lines. Some (in_turn accounts (account_lines (B.MarginBook.state lines.book.now))) };
 
+    #[tactic(auto, using(crate::proofs::InTurn::none_yet, crate::proofs::InTurn::one_more, crate::proofs::InTurn::one_empty), unfolding(crate::specs::Reports::account_lines))]
     fn fmt<W: fmt::Write>(&self, f: &mut fmt::Formatter<W>) -> fmt::Result {
         for account in 0..ACCOUNTS {
             if let Ok(participant) = self.book.participant_of(account)
@@ -54,6 +55,7 @@ pub(crate) struct ParticipantLines<'a, B> {
 impl<B: MarginBook> fmt::Display for ParticipantLines<'_, B> {
     ghost output = { λ lines. Some (in_turn participants (participant_lines (B.MarginBook.state lines.book.now))) };
 
+    #[tactic(auto, using(crate::proofs::InTurn::none_yet, crate::proofs::InTurn::one_more, crate::proofs::InTurn::one_empty), unfolding(crate::specs::Reports::participant_lines))]
     fn fmt<W: fmt::Write>(&self, f: &mut fmt::Formatter<W>) -> fmt::Result {
         for participant in 0..PARTICIPANTS {
             if let Ok((claim, retained)) = self.book.participant(participant) {
