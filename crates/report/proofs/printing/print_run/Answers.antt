@@ -1,6 +1,7 @@
-use Rattle.std.proofs.Common.{Ok, Err, sym, ◌∙◌}
+use Rattle.std.proofs.Common.{[], ◌∷◌, codes, ap, Ok, Err, sym, ◌∙◌}
 use Rattle.std.proofs.lemmas.Result.{IfOk-weaker}
 use Rattle.std.proofs.lemmas.List.{length-take-le}
+use Rattle.report.specs.Lines.{line}
 use Rattle.report.proofs.Whole.{in_place, all_printed}
 use Rattle.report.proofs.printing.print_run.Goals as goal
 
@@ -20,4 +21,4 @@ pub returns : goal.returns
 returns g c =
     let ran = c.run.ensures in
     let whole = all_printed _ _ _ _ c.run.new.answers _ (c.as_mut_slice-answers.ensures.len ∙ c.in_ok-places.ensures.len) ran.list ran.state (Err c.in-Err.fault) (sym c.in-Err.is ∙ ran.answer) in
-    IfOk-weaker c.format.result _ _ (λ s told. (rw c.number.ensures at told) ∙ whole) c.format.ensures.ok
+    IfOk-weaker c.format.result _ _ (λ s told. told ∙ ap (λ n. line (codes "FILE") (n ∷ c.in-Err.fault.place ∷ [])) c.number.ensures ∙ whole) c.format.ensures.ok
