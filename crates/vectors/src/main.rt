@@ -23,10 +23,10 @@ fn agrees(rt: &HostRuntime, number: u32) -> anyhow::Result<bool> {
 
 /// Runs all files, and names those that print something else.
 fn compare_all(rt: &HostRuntime) -> anyhow::Result<()> {
-    let mut agreed: u32 = 0;
+    let mut agreed = 0u32;
     for number in 0..FILES {
         if agrees(rt, number)? {
-            agreed = agreed.saturating_add(1);
+            agreed += 1;
         } else {
             println!(rt; "{number:03}.orders prints something else")?;
         }
