@@ -10,43 +10,41 @@ use rules::refusal::Refusal;
 use std::process::Abort;
 use std::test::Fail;
 
+/// What a control account knows of one account: who it is under, once it is open, and its units, pocket by pocket and in
+/// each asset by asset.
+#[derive(Clone, Copy)]
+struct Holding {
+    owner: Option<u8>,
+    units: [u64; 8],
+}
+
+impl Holding {
+    /// The units of an asset in a pocket.
+    fn units_of(&mut self, pocket: u8, asset: u8) -> Option<&mut u64> {
+        self.units
+            .get_mut(usize::from(pocket) * 4 + usize::from(asset))
+    }
+}
+
 /// A control account in plain arithmetic: who is under whom, prices, and the units that orders moved.
 #[derive(Drop)]
 struct Control {
-    owners: [Option<u8>; 64],
+    holdings: [Holding; 64],
     prices: [u64; 4],
-    units: [[[u64; 4]; 2]; 64],
 }
 
 impl Control {
     fn new() -> Control {
-        let mut owners = [None; 64];
-        for (owner, participant) in owners.iter_mut().zip(0..8) {
-            *owner = Some(participant);
+        let mut holdings = [Holding {
+            owner: None,
+            units: [0; 8],
+        }; 64];
+        for (house, participant) in holdings.iter_mut().zip(0..8) {
+            house.owner = Some(participant);
         }
         Control {
-            owners,
+            holdings,
             prices: [1, 0, 0, 0],
-            units: [[[0; 4]; 2]; 64],
-        }
-    }
-
-    /// The units of an asset in a pocket of an account.
-    fn units_of(&mut self, account: u16, pocket: u8, asset: u8) -> Option<&mut u64> {
-        let pockets = self.units.get_mut(usize::from(account))?;
-        let assets = pockets.get_mut(usize::from(pocket))?;
-        assets.get_mut(usize::from(asset))
-    }
-
-    fn enter_deposit(&mut self, account: u16, pocket: u8, asset: u8, more: u64) {
-        if let Some(units) = self.units_of(account, pocket, asset) {
-            *units = units.wrapping_add(more);
-        }
-    }
-
-    fn enter_removal(&mut self, account: u16, pocket: u8, asset: u8, fewer: u64) {
-        if let Some(units) = self.units_of(account, pocket, asset) {
-            *units = units.wrapping_sub(fewer);
         }
     }
 
@@ -54,8 +52,8 @@ impl Control {
     fn enter(&mut self, given: Given) {
         match given {
             Given::Open(account, participant) => {
-                if let Some(owner) = self.owners.get_mut(usize::from(account)) {
-                    *owner = Some(participant);
+                if let Some(holding) = self.holdings.get_mut(usize::from(account)) {
+                    holding.owner = Some(participant);
                 }
             }
             Given::Mark(asset, price, _) => {
@@ -63,21 +61,27 @@ impl Control {
                     *marked = u64::from(price);
                 }
             }
-            Given::Deposit(account, pocket, asset, units) => {
-                self.enter_deposit(account, pocket, asset, units);
+            Given::Deposit(account, pocket, asset, more) => {
+                if let Some(holding) = self.holdings.get_mut(usize::from(account))
+                    && let Some(units) = holding.units_of(pocket, asset)
+                {
+                    *units = units.wrapping_add(more);
+                }
             }
-            Given::Withdraw(account, pocket, asset, units) => {
-                self.enter_removal(account, pocket, asset, units);
-            }
-            Given::Seize(_, paying, pocket, asset, _, units) => {
-                self.enter_removal(paying, pocket, asset, units);
+            Given::Withdraw(account, pocket, asset, fewer)
+            | Given::Seize(_, account, pocket, asset, _, fewer) => {
+                if let Some(holding) = self.holdings.get_mut(usize::from(account))
+                    && let Some(units) = holding.units_of(pocket, asset)
+                {
+                    *units = units.wrapping_sub(fewer);
+                }
             }
             _ => {}
         }
     }
 
     /// What the units in a pocket are worth: yen, foreign currency, bonds and shares.
-    fn worth(&self, units: &[u64; 4]) -> u64 {
+    fn worth(&self, units: &[u64]) -> u64 {
         let mut sum: u64 = 0;
         for ((units, price), scale) in units.iter().zip(&self.prices).zip([1, 10_000, 10_000, 10]) {
             sum = sum.wrapping_add(units.wrapping_mul(*price) / scale);
@@ -88,10 +92,10 @@ impl Control {
     /// What the boxes of a participant's accounts are worth.
     fn total(&self, participant: u8) -> u64 {
         let mut sum: u64 = 0;
-        for (owner, pockets) in self.owners.iter().zip(&self.units) {
-            if *owner == Some(participant) {
-                for units in pockets {
-                    sum = sum.wrapping_add(self.worth(units));
+        for holding in &self.holdings {
+            if holding.owner == Some(participant) {
+                for pocket in holding.units.chunks_exact(4) {
+                    sum = sum.wrapping_add(self.worth(pocket));
                 }
             }
         }
@@ -103,8 +107,8 @@ impl Control {
 fn answered<B: MarginBook>(book: &B, control: &Control, participant: u8) -> Result<u64, Fail> {
     let (claim, retained) = book.participant(participant)?;
     let mut sum = claim.wrapping_add(retained);
-    for (account, owner) in (8..).zip(&control.owners[8..]) {
-        if *owner == Some(participant) {
+    for (account, holding) in (8..).zip(&control.holdings[8..]) {
+        if holding.owner == Some(participant) {
             let (customer, _) = book.customer(account)?;
             sum = sum.wrapping_add(customer);
         }
@@ -114,11 +118,7 @@ fn answered<B: MarginBook>(book: &B, control: &Control, participant: u8) -> Resu
 
 /// Gives orders one after the other, compares each answer, and after each of them compares what all parties are told
 /// with the control account.
-fn balanced_walk<B: MarginBook>(
-    rt: &impl Abort,
-    book: &mut B,
-    steps: &[Step],
-) -> Result<(), Fail> {
+fn balanced_walk<B: MarginBook>(rt: &impl Abort, book: &mut B, steps: &[Step]) -> Result<(), Fail> {
     let mut control = Control::new();
     for (given, expected) in steps {
         let answer = give(book, *given);
@@ -167,13 +167,19 @@ fn default_in_balance(rt: HostRuntime) -> Result<(), Fail> {
             (Given::Position(9, 0, 1, 0), Ok(())),
             (Given::Withdraw(8, 0, 1, 100), Ok(())),
             (Given::Withdraw(9, 1, 3, 1), Err(Refusal::BelowMaintenance)),
-            (Given::Withdraw(10, 0, 0, 51), Err(Refusal::BeyondEntitlement)),
+            (
+                Given::Withdraw(10, 0, 0, 51),
+                Err(Refusal::BeyondEntitlement),
+            ),
             (Given::Withdraw(10, 0, 0, 50), Ok(())),
             (Given::Suspend(0), Ok(())),
             (Given::Withdraw(8, 0, 1, 100), Err(Refusal::WrongStanding)),
             (Given::Mark(1, 9_999, 50), Ok(())),
             (Given::Seize(0, 8, 0, 1, 8, 1_000), Ok(())),
-            (Given::Seize(0, 8, 1, 0, 8, 201), Err(Refusal::BeyondEntitlement)),
+            (
+                Given::Seize(0, 8, 1, 0, 8, 201),
+                Err(Refusal::BeyondEntitlement),
+            ),
             (Given::Seize(0, 8, 1, 0, 8, 200), Ok(())),
             (Given::Seize(1, 0, 0, 0, 9, 30), Ok(())),
             (Given::Seize(1, 9, 1, 3, 8, 2), Ok(())),

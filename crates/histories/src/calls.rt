@@ -63,12 +63,24 @@ fn refused_before_taken(rt: HostRuntime) {
             (Given::Position(8, 0, 1, 0), Ok(())),
             (Given::Declare(8, 0, 60_100, 60_080), Ok(())),
             (Given::Withdraw(8, 0, 0, 60_151), Err(Refusal::TooFewUnits)),
-            (Given::Withdraw(8, 0, 0, 151), Err(Refusal::BelowMaintenance)),
-            (Given::Withdraw(8, 0, 0, 51), Err(Refusal::BeyondEntitlement)),
+            (
+                Given::Withdraw(8, 0, 0, 151),
+                Err(Refusal::BelowMaintenance),
+            ),
+            (
+                Given::Withdraw(8, 0, 0, 51),
+                Err(Refusal::BeyondEntitlement),
+            ),
             (Given::Withdraw(8, 0, 0, 50), Ok(())),
             (Given::Suspend(0), Ok(())),
-            (Given::Seize(0, 8, 0, 0, 8, 60_101), Err(Refusal::TooFewUnits)),
-            (Given::Seize(0, 8, 0, 0, 8, 60_081), Err(Refusal::BeyondEntitlement)),
+            (
+                Given::Seize(0, 8, 0, 0, 8, 60_101),
+                Err(Refusal::TooFewUnits),
+            ),
+            (
+                Given::Seize(0, 8, 0, 0, 8, 60_081),
+                Err(Refusal::BeyondEntitlement),
+            ),
             (Given::Seize(0, 8, 0, 0, 8, 60_080), Ok(())),
         ],
     );

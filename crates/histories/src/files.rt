@@ -34,13 +34,25 @@ fn untouched<B: MarginBook>(rt: &impl Abort, book: &B) {
 // Files that are refused, each on a book in use and with a list that must stay as it is.
 fn refused<B: MarginBook>(rt: &impl Abort, book: &mut B) {
     let mut answers = [99; 2];
-    assert_eq!(rt; run(book, &FILE, &mut answers), faulty(Refusal::AnswerListTooShort, 3));
+    assert_eq!(rt;
+        run(book, &FILE, &mut answers),
+        faulty(Refusal::AnswerListTooShort, 3)
+    );
     assert_eq!(rt; answers, [99; 2]);
     untouched(rt, book);
     let mut places = [99; 4];
-    assert_eq!(rt; run(book, &FILE[0..26], &mut places), faulty(Refusal::BodyCutShort, 15));
-    assert_eq!(rt; run(book, &[1, 8, 0, 10], &mut places), faulty(Refusal::UnknownKind, 3));
-    assert_eq!(rt; run(book, &[1; 65_537], &mut places), faulty(Refusal::FileTooLong, 65_536));
+    assert_eq!(rt;
+        run(book, &FILE[0..26], &mut places),
+        faulty(Refusal::BodyCutShort, 15)
+    );
+    assert_eq!(rt;
+        run(book, &[1, 8, 0, 10], &mut places),
+        faulty(Refusal::UnknownKind, 3)
+    );
+    assert_eq!(rt;
+        run(book, &[1; 65_537], &mut places),
+        faulty(Refusal::FileTooLong, 65_536)
+    );
     assert_eq!(rt; places, [99; 4]);
     untouched(rt, book);
 }

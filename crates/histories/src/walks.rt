@@ -27,11 +27,17 @@ fn work_all(rt: &impl Abort, histories: &[History]) -> Result<(), Fail> {
     for history in histories {
         let mut numbers = [7; 512];
         let mut bytes = [7; 4096];
-        let custody = SplitCustodian::new(NumberRegister::new(&mut numbers), BytePage::new(&mut bytes));
+        let custody = SplitCustodian::new(
+            NumberRegister::new(&mut numbers),
+            BytePage::new(&mut bytes),
+        );
         let rates = [60_000; 8];
         let mut book = Book::new(custody, NetMargin::new(rates), GrossMargin::new(rates));
         walk(rt, &mut book, history.steps);
-        assert_eq!(rt; book.customer(8).map_or(0, |(claim, _)| claim), history.claim);
+        assert_eq!(rt;
+            book.customer(8).map_or(0, |(claim, _)| claim),
+            history.claim
+        );
         assert_eq!(rt; book.participant(0)?, history.participant);
     }
     Ok(())
@@ -48,7 +54,10 @@ fn withdrawals(rt: HostRuntime) -> Result<(), Fail> {
                     (Given::Open(8, 0), Ok(())),
                     (Given::Deposit(8, 0, 0, 150), Ok(())),
                     (Given::Declare(8, 0, 100, 80), Ok(())),
-                    (Given::Withdraw(8, 0, 0, 51), Err(Refusal::BeyondEntitlement)),
+                    (
+                        Given::Withdraw(8, 0, 0, 51),
+                        Err(Refusal::BeyondEntitlement),
+                    ),
                     (Given::Withdraw(0, 0, 0, 20), Err(Refusal::TooFewUnits)),
                     (Given::Withdraw(8, 1, 0, 20), Err(Refusal::TooFewUnits)),
                     (Given::Withdraw(8, 0, 0, 50), Ok(())),
@@ -64,7 +73,10 @@ fn withdrawals(rt: HostRuntime) -> Result<(), Fail> {
                     (Given::Declare(8, 200, 50, 120), Ok(())),
                     (Given::Deposit(0, 0, 0, 30), Ok(())),
                     (Given::Declare(0, 0, 0, 20), Ok(())),
-                    (Given::Withdraw(8, 1, 0, 41), Err(Refusal::BeyondEntitlement)),
+                    (
+                        Given::Withdraw(8, 1, 0, 41),
+                        Err(Refusal::BeyondEntitlement),
+                    ),
                     (Given::Withdraw(8, 1, 0, 40), Ok(())),
                 ],
                 claim: 150,
@@ -148,7 +160,10 @@ fn seizures(rt: HostRuntime) -> Result<(), Fail> {
                     (Given::Deposit(8, 0, 3, 2), Ok(())),
                     (Given::Declare(8, 0, 1, 1), Ok(())),
                     (Given::Suspend(0), Ok(())),
-                    (Given::Seize(0, 8, 0, 3, 8, 1), Err(Refusal::BeyondEntitlement)),
+                    (
+                        Given::Seize(0, 8, 0, 3, 8, 1),
+                        Err(Refusal::BeyondEntitlement),
+                    ),
                 ],
                 claim: 2,
                 participant: (0, 1),
@@ -160,7 +175,10 @@ fn seizures(rt: HostRuntime) -> Result<(), Fail> {
                     (Given::Declare(0, 0, 0, 30), Ok(())),
                     (Given::Seize(1, 0, 0, 0, 0, 30), Err(Refusal::WrongStanding)),
                     (Given::Suspend(0), Ok(())),
-                    (Given::Seize(1, 0, 0, 0, 0, 31), Err(Refusal::BeyondEntitlement)),
+                    (
+                        Given::Seize(1, 0, 0, 0, 0, 31),
+                        Err(Refusal::BeyondEntitlement),
+                    ),
                     (Given::Seize(1, 0, 0, 0, 0, 30), Ok(())),
                 ],
                 claim: 0,
@@ -173,7 +191,10 @@ fn seizures(rt: HostRuntime) -> Result<(), Fail> {
                     (Given::Deposit(8, 1, 0, 100), Ok(())),
                     (Given::Declare(8, 40, 0, 70), Ok(())),
                     (Given::Suspend(0), Ok(())),
-                    (Given::Seize(1, 8, 1, 0, 8, 61), Err(Refusal::BeyondEntitlement)),
+                    (
+                        Given::Seize(1, 8, 1, 0, 8, 61),
+                        Err(Refusal::BeyondEntitlement),
+                    ),
                     (Given::Seize(1, 8, 1, 0, 8, 60), Ok(())),
                 ],
                 claim: 40,
@@ -187,7 +208,10 @@ fn seizures(rt: HostRuntime) -> Result<(), Fail> {
                     (Given::Deposit(8, 1, 0, 50), Ok(())),
                     (Given::Declare(8, 20, 80, 80), Ok(())),
                     (Given::Suspend(0), Ok(())),
-                    (Given::Seize(0, 8, 1, 0, 8, 21), Err(Refusal::BeyondEntitlement)),
+                    (
+                        Given::Seize(0, 8, 1, 0, 8, 21),
+                        Err(Refusal::BeyondEntitlement),
+                    ),
                     (Given::Seize(0, 8, 1, 0, 8, 20), Ok(())),
                 ],
                 claim: 40,
@@ -200,7 +224,10 @@ fn seizures(rt: HostRuntime) -> Result<(), Fail> {
                     (Given::Deposit(8, 1, 0, 50), Ok(())),
                     (Given::Declare(8, 50, 30, 10), Ok(())),
                     (Given::Suspend(0), Ok(())),
-                    (Given::Seize(0, 8, 1, 0, 8, 11), Err(Refusal::BeyondEntitlement)),
+                    (
+                        Given::Seize(0, 8, 1, 0, 8, 11),
+                        Err(Refusal::BeyondEntitlement),
+                    ),
                     (Given::Seize(0, 8, 1, 0, 8, 10), Ok(())),
                 ],
                 claim: 20,
@@ -240,7 +267,10 @@ fn seizures(rt: HostRuntime) -> Result<(), Fail> {
                     (Given::Open(8, 0), Ok(())),
                     (Given::Open(9, 1), Ok(())),
                     (Given::Open(10, 0), Ok(())),
-                    (Given::Seize(2, 8, 0, 0, 9, 1), Err(Refusal::WrongParticipant)),
+                    (
+                        Given::Seize(2, 8, 0, 0, 9, 1),
+                        Err(Refusal::WrongParticipant),
+                    ),
                     (Given::Seize(2, 8, 0, 0, 10, 1), Err(Refusal::WrongPocket)),
                     (Given::Seize(0, 8, 0, 0, 10, 1), Err(Refusal::WrongPocket)),
                     (Given::Seize(0, 0, 0, 0, 0, 1), Err(Refusal::WrongPocket)),
@@ -248,7 +278,10 @@ fn seizures(rt: HostRuntime) -> Result<(), Fail> {
                     (Given::Seize(0, 8, 0, 4, 8, 0), Err(Refusal::WrongAsset)),
                     (Given::Seize(0, 8, 0, 0, 8, 0), Err(Refusal::OutOfRange)),
                     (Given::Seize(0, 8, 0, 0, 11, 1), Err(Refusal::WrongAccount)),
-                    (Given::Seize(0, 65_535, 255, 255, 8, 0), Err(Refusal::WrongAccount)),
+                    (
+                        Given::Seize(0, 65_535, 255, 255, 8, 0),
+                        Err(Refusal::WrongAccount),
+                    ),
                     (Given::Suspend(0), Ok(())),
                     (Given::Seize(0, 8, 0, 0, 8, 1), Err(Refusal::TooFewUnits)),
                 ],
