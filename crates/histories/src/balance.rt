@@ -6,7 +6,9 @@ use custody::register::NumberRegister;
 use custody::split::SplitCustodian;
 use margin::gross::GrossMargin;
 use margin::net::NetMargin;
-use rules::refusal::Refusal;
+use rules::refusal::Refusal::{
+    BelowMaintenance, BeyondEntitlement, OpenPositions, WrongAccount, WrongPocket, WrongStanding,
+};
 use std::process::Abort;
 use std::test::Fail;
 
@@ -151,7 +153,7 @@ fn default_in_balance(rt: HostRuntime) -> Result<(), Fail> {
             (Given::Open(8, 0), Ok(())),
             (Given::Open(9, 0), Ok(())),
             (Given::Open(10, 1), Ok(())),
-            (Given::Open(8, 1), Err(Refusal::WrongAccount)),
+            (Given::Open(8, 1), Err(WrongAccount)),
             (Given::Mark(1, 15_025, 50), Ok(())),
             (Given::Mark(3, 1_234, 300), Ok(())),
             (Given::Deposit(8, 0, 1, 12_345), Ok(())),
@@ -159,32 +161,26 @@ fn default_in_balance(rt: HostRuntime) -> Result<(), Fail> {
             (Given::Deposit(9, 1, 3, 7), Ok(())),
             (Given::Deposit(10, 0, 0, 150), Ok(())),
             (Given::Deposit(0, 0, 0, 30), Ok(())),
-            (Given::Deposit(0, 1, 0, 30), Err(Refusal::WrongPocket)),
+            (Given::Deposit(0, 1, 0, 30), Err(WrongPocket)),
             (Given::Declare(8, 200, 5_000, 9_120), Ok(())),
             (Given::Declare(9, 500, 0, 40), Ok(())),
             (Given::Declare(0, 0, 0, 20), Ok(())),
             (Given::Declare(10, 0, 100, 80), Ok(())),
             (Given::Position(9, 0, 1, 0), Ok(())),
             (Given::Withdraw(8, 0, 1, 100), Ok(())),
-            (Given::Withdraw(9, 1, 3, 1), Err(Refusal::BelowMaintenance)),
-            (
-                Given::Withdraw(10, 0, 0, 51),
-                Err(Refusal::BeyondEntitlement),
-            ),
+            (Given::Withdraw(9, 1, 3, 1), Err(BelowMaintenance)),
+            (Given::Withdraw(10, 0, 0, 51), Err(BeyondEntitlement)),
             (Given::Withdraw(10, 0, 0, 50), Ok(())),
             (Given::Suspend(0), Ok(())),
-            (Given::Withdraw(8, 0, 1, 100), Err(Refusal::WrongStanding)),
+            (Given::Withdraw(8, 0, 1, 100), Err(WrongStanding)),
             (Given::Mark(1, 9_999, 50), Ok(())),
             (Given::Seize(0, 8, 0, 1, 8, 1_000), Ok(())),
-            (
-                Given::Seize(0, 8, 1, 0, 8, 201),
-                Err(Refusal::BeyondEntitlement),
-            ),
+            (Given::Seize(0, 8, 1, 0, 8, 201), Err(BeyondEntitlement)),
             (Given::Seize(0, 8, 1, 0, 8, 200), Ok(())),
             (Given::Seize(1, 0, 0, 0, 9, 30), Ok(())),
             (Given::Seize(1, 9, 1, 3, 8, 2), Ok(())),
-            (Given::Seize(1, 8, 0, 0, 8, 1), Err(Refusal::WrongPocket)),
-            (Given::Settle(0), Err(Refusal::OpenPositions)),
+            (Given::Seize(1, 8, 0, 0, 8, 1), Err(WrongPocket)),
+            (Given::Settle(0), Err(OpenPositions)),
             (Given::Position(9, 0, 0, 0), Ok(())),
             (Given::Settle(0), Ok(())),
             (Given::Mark(3, 5, 300), Ok(())),

@@ -3,7 +3,7 @@ use book::book::Book;
 use custody::custodian::{Custodian, PutRefusal, TakeRefusal};
 use custody::register::NumberRegister;
 use margin::gross::GrossMargin;
-use rules::refusal::Refusal;
+use rules::refusal::Refusal::{BelowMaintenance, BeyondEntitlement, TooFewUnits};
 
 /// A custodian that counts the calls which may change its boxes. What it holds is with another.
 #[derive(Drop)]
@@ -62,25 +62,13 @@ fn refused_before_taken(rt: HostRuntime) {
             (Given::Deposit(8, 0, 0, 60_150), Ok(())),
             (Given::Position(8, 0, 1, 0), Ok(())),
             (Given::Declare(8, 0, 60_100, 60_080), Ok(())),
-            (Given::Withdraw(8, 0, 0, 60_151), Err(Refusal::TooFewUnits)),
-            (
-                Given::Withdraw(8, 0, 0, 151),
-                Err(Refusal::BelowMaintenance),
-            ),
-            (
-                Given::Withdraw(8, 0, 0, 51),
-                Err(Refusal::BeyondEntitlement),
-            ),
+            (Given::Withdraw(8, 0, 0, 60_151), Err(TooFewUnits)),
+            (Given::Withdraw(8, 0, 0, 151), Err(BelowMaintenance)),
+            (Given::Withdraw(8, 0, 0, 51), Err(BeyondEntitlement)),
             (Given::Withdraw(8, 0, 0, 50), Ok(())),
             (Given::Suspend(0), Ok(())),
-            (
-                Given::Seize(0, 8, 0, 0, 8, 60_101),
-                Err(Refusal::TooFewUnits),
-            ),
-            (
-                Given::Seize(0, 8, 0, 0, 8, 60_081),
-                Err(Refusal::BeyondEntitlement),
-            ),
+            (Given::Seize(0, 8, 0, 0, 8, 60_101), Err(TooFewUnits)),
+            (Given::Seize(0, 8, 0, 0, 8, 60_081), Err(BeyondEntitlement)),
             (Given::Seize(0, 8, 0, 0, 8, 60_080), Ok(())),
         ],
     );
