@@ -40,6 +40,7 @@ pub(crate) fn print_run<B: MarginBook>(
 ) -> Result<String, AllocError>
     ensures { IfOk result (λ s. string_bytes s ≡ printed_from (B.MarginBook.terms book.old) (B.MarginBook.state book.old) file.now) }
 {
+    // a run works without a heap, so it fills places that it is lent and answers how many it filled
     let mut places = vec![in heap; 0u8; PLACES]?;
     let answers = places.as_mut_slice();
     match run(book, file, answers) {
