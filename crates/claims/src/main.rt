@@ -13,8 +13,7 @@ fn run(rt: &HostRuntime) -> anyhow::Result<()> {
     let heap = rt.alloc();
     let mut file = Vec::new(heap);
     rt.stdin().take(MOST_READ).read_to_end(&mut file)?;
-    let text = answer(heap, file.as_slice())?;
-    rt.write_all(text.as_slice())?;
+    rt.write_all(&answer(heap, &file)?)?;
     Ok(())
 }
 

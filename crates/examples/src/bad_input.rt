@@ -2,7 +2,6 @@
 mod tests {
     use book::book::Book;
     use book::orders::MarginBook;
-    use custody::custodian::Custodian;
     use custody::register::NumberRegister;
     use margin::net::NetMargin;
     use rules::refusal::Refusal;
@@ -72,39 +71,31 @@ mod tests {
         assert_eq!(rt; book.held(usize::MAX), 0);
     }
 
-    fn all_bad<Custody: Custodian + Drop>(rt: &impl Abort, custody: Custody) -> Result<(), Fail> {
-        let method = NetMargin::new([60_000; 8]);
-        let mut book = Book::new(custody, method, method);
-        book.open(8, 0)?;
-        book.deposit(8, 0, 0, 150)?;
-        book.declare(8, 0, 100, 80)?;
-        bad_openings(rt, &mut book);
-        bad_marks(rt, &mut book);
-        bad_declarations(rt, &mut book);
-        bad_deposits(rt, &mut book);
-        bad_questions(rt, &book);
-        as_before(rt, &book);
-        Ok(())
-    }
-
     #[test]
     fn bad_input_changes_nothing(rt: HostRuntime) -> Result<(), Fail> {
         let mut memory = [0; 512];
-        all_bad(&rt, NumberRegister::new(&mut memory))
+        let method = NetMargin::new([60_000; 8]);
+        let mut book = Book::new(NumberRegister::new(&mut memory), method, method);
+        book.open(8, 0)?;
+        book.deposit(8, 0, 0, 150)?;
+        book.declare(8, 0, 100, 80)?;
+        bad_openings(&rt, &mut book);
+        bad_marks(&rt, &mut book);
+        bad_declarations(&rt, &mut book);
+        bad_deposits(&rt, &mut book);
+        bad_questions(&rt, &book);
+        as_before(&rt, &book);
+        Ok(())
     }
 
     // Without memory every deposit is refused, and nothing else is.
-    fn no_room<Custody: Custodian + Drop>(rt: &impl Abort, custody: Custody) {
-        let method = NetMargin::new([60_000; 8]);
-        let mut book = Book::new(custody, method, method);
-        assert_eq!(rt; book.deposit(0, 0, 0, 1), Err(Refusal::OverLimit));
-        assert_eq!(rt; book.declare(0, 0, 0, 5), Ok(()));
-        assert_eq!(rt; book.participant(0), Ok((0, 0)));
-    }
-
     #[test]
     fn empty_memory(rt: HostRuntime) {
         let mut memory = [];
-        no_room(&rt, NumberRegister::new(&mut memory));
+        let method = NetMargin::new([60_000; 8]);
+        let mut book = Book::new(NumberRegister::new(&mut memory), method, method);
+        assert_eq!(rt; book.deposit(0, 0, 0, 1), Err(Refusal::OverLimit));
+        assert_eq!(rt; book.declare(0, 0, 0, 5), Ok(()));
+        assert_eq!(rt; book.participant(0), Ok((0, 0)));
     }
 }

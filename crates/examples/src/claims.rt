@@ -2,67 +2,67 @@
 mod tests {
     use book::book::Book;
     use book::orders::MarginBook;
-    use custody::custodian::Custodian;
     use custody::register::NumberRegister;
     use margin::net::NetMargin;
     use std::process::Abort;
     use std::test::Fail;
 
-    // A direct deposit of yen on account 8, under participant 0, with a customer's and a participant's debt.
-    fn direct_deposit<Custody: Custodian + Drop>(
-        rt: &impl Abort,
-        custody: Custody,
+    // A direct deposit of yen on account 8, under participant 0, with a customer's and a participant's debt, and what the
+    // customer question and the participant question then answer.
+    struct DirectDeposit {
         yen: u64,
         customer_debt: u64,
         participant_debt: u64,
         customer: (u64, u64),
         participant: (u64, u64),
-    ) -> Result<(), Fail> {
+    }
+
+    fn compare(rt: &impl Abort, case: &DirectDeposit) -> Result<(), Fail> {
+        let mut memory = [0; 512];
         let method = NetMargin::new([60_000; 8]);
-        let mut book = Book::new(custody, method, method);
+        let mut book = Book::new(NumberRegister::new(&mut memory), method, method);
         book.open(8, 0)?;
-        book.deposit(8, 0, 0, yen)?;
-        book.declare(8, 0, customer_debt, participant_debt)?;
-        assert_eq!(rt; book.customer(8), Ok(customer));
-        assert_eq!(rt; book.participant(0), Ok(participant));
+        book.deposit(8, 0, 0, case.yen)?;
+        book.declare(8, 0, case.customer_debt, case.participant_debt)?;
+        assert_eq!(rt; book.customer(8), Ok(case.customer));
+        assert_eq!(rt; book.participant(0), Ok(case.participant));
         Ok(())
     }
 
     #[test]
     fn both_debts(rt: HostRuntime) -> Result<(), Fail> {
-        let mut memory = [0; 512];
-        direct_deposit(
+        compare(
             &rt,
-            NumberRegister::new(&mut memory),
-            150,
-            100,
-            80,
-            (50, 100),
-            (20, 80),
+            &DirectDeposit {
+                yen: 150,
+                customer_debt: 100,
+                participant_debt: 80,
+                customer: (50, 100),
+                participant: (20, 80),
+            },
         )
     }
 
     #[test]
     fn more_owed_than_deposited(rt: HostRuntime) -> Result<(), Fail> {
-        let mut memory = [0; 512];
-        direct_deposit(
+        compare(
             &rt,
-            NumberRegister::new(&mut memory),
-            60,
-            100,
-            0,
-            (0, 60),
-            (60, 0),
+            &DirectDeposit {
+                yen: 60,
+                customer_debt: 100,
+                participant_debt: 0,
+                customer: (0, 60),
+                participant: (60, 0),
+            },
         )
     }
 
     // Replacement margin beyond the customer margin, a house deposit and debts on both accounts; and a price.
-    fn replacement_margin<Custody: Custodian + Drop>(
-        rt: &impl Abort,
-        custody: Custody,
-    ) -> Result<(), Fail> {
+    #[test]
+    fn replacement_and_house(rt: HostRuntime) -> Result<(), Fail> {
+        let mut memory = [0; 512];
         let method = NetMargin::new([60_000; 8]);
-        let mut book = Book::new(custody, method, method);
+        let mut book = Book::new(NumberRegister::new(&mut memory), method, method);
         book.open(8, 0)?;
         book.deposit(8, 1, 0, 300)?;
         book.declare(8, 200, 50, 120)?;
@@ -76,11 +76,5 @@ mod tests {
         book.deposit(8, 0, 3, 7)?;
         assert_eq!(rt; book.customer(8), Ok((150 + 863, 50)));
         Ok(())
-    }
-
-    #[test]
-    fn replacement_and_house(rt: HostRuntime) -> Result<(), Fail> {
-        let mut memory = [0; 512];
-        replacement_margin(&rt, NumberRegister::new(&mut memory))
     }
 }

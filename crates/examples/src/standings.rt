@@ -2,7 +2,6 @@
 mod tests {
     use book::book::Book;
     use book::orders::MarginBook;
-    use custody::custodian::Custodian;
     use custody::register::NumberRegister;
     use margin::net::NetMargin;
     use rules::refusal::Refusal;
@@ -50,17 +49,13 @@ mod tests {
         assert_eq!(rt; book.settle(255), Err(Refusal::WrongParticipant));
     }
 
-    fn all<Custody: Custodian + Drop>(rt: &impl Abort, custody: Custody) {
-        let method = NetMargin::new([60_000; 8]);
-        let mut book = Book::new(custody, method, method);
-        default_run(rt, &mut book);
-        settled(rt, &mut book);
-        limits(rt, &mut book);
-    }
-
     #[test]
     fn standings(rt: HostRuntime) {
         let mut memory = [0; 512];
-        all(&rt, NumberRegister::new(&mut memory));
+        let method = NetMargin::new([60_000; 8]);
+        let mut book = Book::new(NumberRegister::new(&mut memory), method, method);
+        default_run(&rt, &mut book);
+        settled(&rt, &mut book);
+        limits(&rt, &mut book);
     }
 }

@@ -1,44 +1,52 @@
-use crate::given::{Given, give, number};
+use crate::given::{Given, Step, give};
 use book::book::Book;
 use book::orders::MarginBook;
-use custody::custodian::Custodian;
 use custody::page::BytePage;
 use custody::register::NumberRegister;
 use custody::split::SplitCustodian;
 use margin::gross::GrossMargin;
 use margin::net::NetMargin;
+use rules::refusal::Refusal::{
+    BelowMaintenance, BeyondEntitlement, OpenPositions, WrongAccount, WrongPocket, WrongStanding,
+};
 use std::process::Abort;
 use std::test::Fail;
+
+/// What a control account knows of one account: who it is under, once it is open, and its units, pocket by pocket and in
+/// each asset by asset.
+#[derive(Clone, Copy)]
+struct Holding {
+    owner: Option<u8>,
+    units: [u64; 8],
+}
+
+impl Holding {
+    /// The units of an asset in a pocket.
+    fn units_of(&mut self, pocket: u8, asset: u8) -> Option<&mut u64> {
+        self.units
+            .get_mut(usize::from(pocket) * 4 + usize::from(asset))
+    }
+}
 
 /// A control account in plain arithmetic: who is under whom, prices, and the units that orders moved.
 #[derive(Drop)]
 struct Control {
-    owners: [u8; 64],
+    holdings: [Holding; 64],
     prices: [u64; 4],
-    units: [u64; 512],
 }
-
-/// The owner of an account that nobody opened.
-const NOBODY: u8 = 255;
 
 impl Control {
     fn new() -> Control {
-        let mut owners = [NOBODY; 64];
-        for participant in 0..8u8 {
-            owners[participant as usize] = participant;
+        let mut holdings = [Holding {
+            owner: None,
+            units: [0; 8],
+        }; 64];
+        for (house, participant) in holdings.iter_mut().zip(0..8) {
+            house.owner = Some(participant);
         }
         Control {
-            owners,
+            holdings,
             prices: [1, 0, 0, 0],
-            units: [0; 512],
-        }
-    }
-
-    /// Units into a box, or out of it.
-    fn shift(&mut self, account: u16, pocket: u8, asset: u8, more: u64, fewer: u64) {
-        let place = account as usize * 8 + pocket as usize * 4 + asset as usize;
-        if let Some(cell) = self.units.get_mut(place) {
-            *cell = cell.wrapping_add(more).wrapping_sub(fewer);
         }
     }
 
@@ -46,40 +54,51 @@ impl Control {
     fn enter(&mut self, given: Given) {
         match given {
             Given::Open(account, participant) => {
-                if let Some(owner) = self.owners.get_mut(account as usize) {
-                    *owner = participant;
+                if let Some(holding) = self.holdings.get_mut(usize::from(account)) {
+                    holding.owner = Some(participant);
                 }
             }
             Given::Mark(asset, price, _) => {
-                if let Some(cell) = self.prices.get_mut(asset as usize) {
-                    *cell = u64::from(price);
+                if let Some(marked) = self.prices.get_mut(usize::from(asset)) {
+                    *marked = u64::from(price);
                 }
             }
-            Given::Deposit(account, pocket, asset, units) => {
-                self.shift(account, pocket, asset, units, 0);
+            Given::Deposit(account, pocket, asset, more) => {
+                if let Some(holding) = self.holdings.get_mut(usize::from(account))
+                    && let Some(units) = holding.units_of(pocket, asset)
+                {
+                    *units = units.wrapping_add(more);
+                }
             }
-            Given::Withdraw(account, pocket, asset, units) => {
-                self.shift(account, pocket, asset, 0, units);
-            }
-            Given::Seize(_, paying, pocket, asset, _, units) => {
-                self.shift(paying, pocket, asset, 0, units);
+            Given::Withdraw(account, pocket, asset, fewer)
+            | Given::Seize(_, account, pocket, asset, _, fewer) => {
+                if let Some(holding) = self.holdings.get_mut(usize::from(account))
+                    && let Some(units) = holding.units_of(pocket, asset)
+                {
+                    *units = units.wrapping_sub(fewer);
+                }
             }
             _ => {}
         }
     }
 
+    /// What the units in a pocket are worth: yen, foreign currency, bonds and shares.
+    fn worth(&self, units: &[u64]) -> u64 {
+        let mut sum: u64 = 0;
+        for ((units, price), scale) in units.iter().zip(&self.prices).zip([1, 10_000, 10_000, 10]) {
+            sum = sum.wrapping_add(units.wrapping_mul(*price) / scale);
+        }
+        sum
+    }
+
     /// What the boxes of a participant's accounts are worth.
     fn total(&self, participant: u8) -> u64 {
         let mut sum: u64 = 0;
-        for (place, units) in self.units.iter().enumerate() {
-            if self.owners[place / 8] == participant {
-                let product = units.wrapping_mul(self.prices[place % 4]);
-                let value = match place % 4 {
-                    0 => product,
-                    3 => product / 10,
-                    _ => product / 10_000,
-                };
-                sum = sum.wrapping_add(value);
+        for holding in &self.holdings {
+            if holding.owner == Some(participant) {
+                for pocket in holding.units.chunks_exact(4) {
+                    sum = sum.wrapping_add(self.worth(pocket));
+                }
             }
         }
         sum
@@ -90,30 +109,26 @@ impl Control {
 fn answered<B: MarginBook>(book: &B, control: &Control, participant: u8) -> Result<u64, Fail> {
     let (claim, retained) = book.participant(participant)?;
     let mut sum = claim.wrapping_add(retained);
-    for (account, owner) in control.owners.iter().enumerate() {
-        if account >= 8 && *owner == participant {
-            let (customer, _) = book.customer(account as u16)?;
+    for (account, holding) in (8..).zip(&control.holdings[8..]) {
+        if holding.owner == Some(participant) {
+            let (customer, _) = book.customer(account)?;
             sum = sum.wrapping_add(customer);
         }
     }
     Ok(sum)
 }
 
-/// Gives orders one after the other, compares the number of each answer, and after each of them compares what all
-/// parties are told with the control account.
-fn balanced_walk<B: MarginBook>(
-    rt: &impl Abort,
-    book: &mut B,
-    steps: &[(Given, u8)],
-) -> Result<(), Fail> {
+/// Gives orders one after the other, compares each answer, and after each of them compares what all parties are told
+/// with the control account.
+fn balanced_walk<B: MarginBook>(rt: &impl Abort, book: &mut B, steps: &[Step]) -> Result<(), Fail> {
     let mut control = Control::new();
     for (given, expected) in steps {
-        let answer = number(give(book, *given));
+        let answer = give(book, *given);
         assert_eq!(rt; answer, *expected);
-        if answer == 0 {
+        if answer.is_ok() {
             control.enter(*given);
         }
-        for participant in 0..8u8 {
+        for participant in 0..8 {
             assert_eq!(rt;
                 answered(book, &control, participant)?,
                 control.total(participant)
@@ -123,60 +138,53 @@ fn balanced_walk<B: MarginBook>(
     Ok(())
 }
 
-fn work<Custody: Custodian + Drop>(
-    rt: &impl Abort,
-    custody: Custody,
-    steps: &[(Given, u8)],
-) -> Result<(), Fail> {
-    let rates = [60_000; 8];
-    let mut book = Book::new(custody, NetMargin::new(rates), GrossMargin::new(rates));
-    balanced_walk(rt, &mut book, steps)
-}
-
 // Two participants, one of which defaults: every kind of order, refused and accepted, with prices that move between.
 #[test]
 fn default_in_balance(rt: HostRuntime) -> Result<(), Fail> {
     let mut numbers = [7; 512];
     let mut bytes = [7; 4096];
-    work(
+    let custody = SplitCustodian::new(NumberRegister::new(&mut numbers), BytePage::new(&mut bytes));
+    let rates = [60_000; 8];
+    let mut book = Book::new(custody, NetMargin::new(rates), GrossMargin::new(rates));
+    balanced_walk(
         &rt,
-        SplitCustodian::new(NumberRegister::new(&mut numbers), BytePage::new(&mut bytes)),
+        &mut book,
         &[
-            (Given::Open(8, 0), 0),
-            (Given::Open(9, 0), 0),
-            (Given::Open(10, 1), 0),
-            (Given::Open(8, 1), 5),
-            (Given::Mark(1, 15_025, 50), 0),
-            (Given::Mark(3, 1_234, 300), 0),
-            (Given::Deposit(8, 0, 1, 12_345), 0),
-            (Given::Deposit(8, 1, 0, 300), 0),
-            (Given::Deposit(9, 1, 3, 7), 0),
-            (Given::Deposit(10, 0, 0, 150), 0),
-            (Given::Deposit(0, 0, 0, 30), 0),
-            (Given::Deposit(0, 1, 0, 30), 7),
-            (Given::Declare(8, 200, 5_000, 9_120), 0),
-            (Given::Declare(9, 500, 0, 40), 0),
-            (Given::Declare(0, 0, 0, 20), 0),
-            (Given::Declare(10, 0, 100, 80), 0),
-            (Given::Position(9, 0, 1, 0), 0),
-            (Given::Withdraw(8, 0, 1, 100), 0),
-            (Given::Withdraw(9, 1, 3, 1), 13),
-            (Given::Withdraw(10, 0, 0, 51), 14),
-            (Given::Withdraw(10, 0, 0, 50), 0),
-            (Given::Suspend(0), 0),
-            (Given::Withdraw(8, 0, 1, 100), 10),
-            (Given::Mark(1, 9_999, 50), 0),
-            (Given::Seize(0, 8, 0, 1, 8, 1_000), 0),
-            (Given::Seize(0, 8, 1, 0, 8, 201), 14),
-            (Given::Seize(0, 8, 1, 0, 8, 200), 0),
-            (Given::Seize(1, 0, 0, 0, 9, 30), 0),
-            (Given::Seize(1, 9, 1, 3, 8, 2), 0),
-            (Given::Seize(1, 8, 0, 0, 8, 1), 7),
-            (Given::Settle(0), 15),
-            (Given::Position(9, 0, 0, 0), 0),
-            (Given::Settle(0), 0),
-            (Given::Mark(3, 5, 300), 0),
-            (Given::Withdraw(8, 0, 1, 1), 0),
+            (Given::Open(8, 0), Ok(())),
+            (Given::Open(9, 0), Ok(())),
+            (Given::Open(10, 1), Ok(())),
+            (Given::Open(8, 1), Err(WrongAccount)),
+            (Given::Mark(1, 15_025, 50), Ok(())),
+            (Given::Mark(3, 1_234, 300), Ok(())),
+            (Given::Deposit(8, 0, 1, 12_345), Ok(())),
+            (Given::Deposit(8, 1, 0, 300), Ok(())),
+            (Given::Deposit(9, 1, 3, 7), Ok(())),
+            (Given::Deposit(10, 0, 0, 150), Ok(())),
+            (Given::Deposit(0, 0, 0, 30), Ok(())),
+            (Given::Deposit(0, 1, 0, 30), Err(WrongPocket)),
+            (Given::Declare(8, 200, 5_000, 9_120), Ok(())),
+            (Given::Declare(9, 500, 0, 40), Ok(())),
+            (Given::Declare(0, 0, 0, 20), Ok(())),
+            (Given::Declare(10, 0, 100, 80), Ok(())),
+            (Given::Position(9, 0, 1, 0), Ok(())),
+            (Given::Withdraw(8, 0, 1, 100), Ok(())),
+            (Given::Withdraw(9, 1, 3, 1), Err(BelowMaintenance)),
+            (Given::Withdraw(10, 0, 0, 51), Err(BeyondEntitlement)),
+            (Given::Withdraw(10, 0, 0, 50), Ok(())),
+            (Given::Suspend(0), Ok(())),
+            (Given::Withdraw(8, 0, 1, 100), Err(WrongStanding)),
+            (Given::Mark(1, 9_999, 50), Ok(())),
+            (Given::Seize(0, 8, 0, 1, 8, 1_000), Ok(())),
+            (Given::Seize(0, 8, 1, 0, 8, 201), Err(BeyondEntitlement)),
+            (Given::Seize(0, 8, 1, 0, 8, 200), Ok(())),
+            (Given::Seize(1, 0, 0, 0, 9, 30), Ok(())),
+            (Given::Seize(1, 9, 1, 3, 8, 2), Ok(())),
+            (Given::Seize(1, 8, 0, 0, 8, 1), Err(WrongPocket)),
+            (Given::Settle(0), Err(OpenPositions)),
+            (Given::Position(9, 0, 0, 0), Ok(())),
+            (Given::Settle(0), Ok(())),
+            (Given::Mark(3, 5, 300), Ok(())),
+            (Given::Withdraw(8, 0, 1, 1), Ok(())),
         ],
     )
 }

@@ -1,10 +1,10 @@
 use crate::given::{Given, walk};
 use book::book::Book;
-use book::orders::MarginBook;
 use custody::custodian::{Custodian, PutRefusal, TakeRefusal};
 use custody::register::NumberRegister;
 use margin::gross::GrossMargin;
-use std::process::Abort;
+use rules::refusal::Refusal::{BelowMaintenance, BeyondEntitlement, TooFewUnits};
+
 /// A custodian that counts the calls which may change its boxes. What it holds is with another.
 #[derive(Drop)]
 struct Counting<'a, Custody> {
@@ -41,38 +41,35 @@ impl<Custody: Custodian> Custodian for Counting<'_, Custody> {
     }
 }
 
-fn work<Custody: Custodian + Drop>(rt: &impl Abort, custody: Custody, steps: &[(Given, u8)]) {
-    let method = GrossMargin::new([60_000; 8]);
-    let mut book = Book::new(custody, method, method);
-    walk(rt, &mut book, steps);
-}
-
 // Refused withdrawals and seizures never reach the boxes: nothing is taken and put back. Accepted ones take once.
 #[test]
 fn refused_before_taken(rt: HostRuntime) {
     let mut memory = [0; 512];
     let mut puts = 0;
     let mut takes = 0;
-    work(
+    let counting = Counting {
+        custody: NumberRegister::new(&mut memory),
+        puts: &mut puts,
+        takes: &mut takes,
+    };
+    let method = GrossMargin::new([60_000; 8]);
+    let mut book = Book::new(counting, method, method);
+    walk(
         &rt,
-        Counting {
-            custody: NumberRegister::new(&mut memory),
-            puts: &mut puts,
-            takes: &mut takes,
-        },
+        &mut book,
         &[
-            (Given::Open(8, 0), 0),
-            (Given::Deposit(8, 0, 0, 60_150), 0),
-            (Given::Position(8, 0, 1, 0), 0),
-            (Given::Declare(8, 0, 60_100, 60_080), 0),
-            (Given::Withdraw(8, 0, 0, 60_151), 12),
-            (Given::Withdraw(8, 0, 0, 151), 13),
-            (Given::Withdraw(8, 0, 0, 51), 14),
-            (Given::Withdraw(8, 0, 0, 50), 0),
-            (Given::Suspend(0), 0),
-            (Given::Seize(0, 8, 0, 0, 8, 60_101), 12),
-            (Given::Seize(0, 8, 0, 0, 8, 60_081), 14),
-            (Given::Seize(0, 8, 0, 0, 8, 60_080), 0),
+            (Given::Open(8, 0), Ok(())),
+            (Given::Deposit(8, 0, 0, 60_150), Ok(())),
+            (Given::Position(8, 0, 1, 0), Ok(())),
+            (Given::Declare(8, 0, 60_100, 60_080), Ok(())),
+            (Given::Withdraw(8, 0, 0, 60_151), Err(TooFewUnits)),
+            (Given::Withdraw(8, 0, 0, 151), Err(BelowMaintenance)),
+            (Given::Withdraw(8, 0, 0, 51), Err(BeyondEntitlement)),
+            (Given::Withdraw(8, 0, 0, 50), Ok(())),
+            (Given::Suspend(0), Ok(())),
+            (Given::Seize(0, 8, 0, 0, 8, 60_101), Err(TooFewUnits)),
+            (Given::Seize(0, 8, 0, 0, 8, 60_081), Err(BeyondEntitlement)),
+            (Given::Seize(0, 8, 0, 0, 8, 60_080), Ok(())),
         ],
     );
     assert_eq!(rt; puts, 1);

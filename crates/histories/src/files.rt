@@ -1,6 +1,5 @@
 use book::book::Book;
 use book::orders::MarginBook;
-use custody::custodian::Custodian;
 use custody::register::NumberRegister;
 use margin::net::NetMargin;
 use orders::accepted::Accepted;
@@ -15,12 +14,14 @@ const FILE: [u8; 27] = [
     1, 8, 0, 5, 8, 0, 0, 0, 0, 0, 0, 0, 0, 0, 150, 6, 9, 0, 0, 0, 0, 0, 0, 0, 0, 0, 1,
 ];
 
-/// The answer of a run as three numbers: orders, and the number of a refusal and its place.
-fn told(answer: Result<Accepted, FileFault>) -> (usize, u8, usize) {
-    match answer {
-        Ok(accepted) => (accepted.orders, 0, 0),
-        Err(fault) => (0, fault.refusal.number(), fault.place),
-    }
+/// The answer to an accepted file of so many orders.
+fn of_orders(orders: usize) -> Result<Accepted, FileFault> {
+    Ok(Accepted { orders })
+}
+
+/// The answer to a refused file.
+fn faulty(refusal: Refusal, place: usize) -> Result<Accepted, FileFault> {
+    Err(FileFault { refusal, place })
 }
 
 // The house account of participant 1 has 7 yen, which no refused file may touch.
@@ -33,13 +34,25 @@ fn untouched<B: MarginBook>(rt: &impl Abort, book: &B) {
 // Files that are refused, each on a book in use and with a list that must stay as it is.
 fn refused<B: MarginBook>(rt: &impl Abort, book: &mut B) {
     let mut answers = [99; 2];
-    assert_eq!(rt; told(run(book, &FILE, &mut answers)), (0, 4, 3));
+    assert_eq!(rt;
+        run(book, &FILE, &mut answers),
+        faulty(Refusal::AnswerListTooShort, 3)
+    );
     assert_eq!(rt; answers, [99; 2]);
     untouched(rt, book);
     let mut places = [99; 4];
-    assert_eq!(rt; told(run(book, &FILE[0..26], &mut places)), (0, 3, 15));
-    assert_eq!(rt; told(run(book, &[1, 8, 0, 10], &mut places)), (0, 2, 3));
-    assert_eq!(rt; told(run(book, &[1; 65_537], &mut places)), (0, 1, 65_536));
+    assert_eq!(rt;
+        run(book, &FILE[0..26], &mut places),
+        faulty(Refusal::BodyCutShort, 15)
+    );
+    assert_eq!(rt;
+        run(book, &[1, 8, 0, 10], &mut places),
+        faulty(Refusal::UnknownKind, 3)
+    );
+    assert_eq!(rt;
+        run(book, &[1; 65_537], &mut places),
+        faulty(Refusal::FileTooLong, 65_536)
+    );
     assert_eq!(rt; places, [99; 4]);
     untouched(rt, book);
 }
@@ -47,25 +60,21 @@ fn refused<B: MarginBook>(rt: &impl Abort, book: &mut B) {
 // A list with just enough places is filled, and one with more keeps the rest; a file goes on after a refused order.
 fn accepted<B: MarginBook>(rt: &impl Abort, book: &mut B) {
     let mut places = [99; 4];
-    assert_eq!(rt; told(run(book, &FILE, &mut places[0..3])), (3, 0, 0));
+    assert_eq!(rt; run(book, &FILE, &mut places[0..3]), of_orders(3));
     assert_eq!(rt; places, [0, 0, 5, 99]);
     assert_eq!(rt; book.customer(8), Ok((150, 0)));
-    assert_eq!(rt; told(run(book, &[], &mut [])), (0, 0, 0));
-    assert_eq!(rt; told(run(book, &[7, 1, 7, 1], &mut places)), (2, 0, 0));
+    assert_eq!(rt; run(book, &[], &mut []), of_orders(0));
+    assert_eq!(rt; run(book, &[7, 1, 7, 1], &mut places), of_orders(2));
     assert_eq!(rt; places, [0, 10, 5, 99]);
-}
-
-fn work<Custody: Custodian + Drop>(rt: &impl Abort, custody: Custody) -> Result<(), Fail> {
-    let method = NetMargin::new([60_000; 8]);
-    let mut book = Book::new(custody, method, method);
-    book.deposit(1, 0, 0, 7)?;
-    refused(rt, &mut book);
-    accepted(rt, &mut book);
-    Ok(())
 }
 
 #[test]
 fn files_and_answer_lists(rt: HostRuntime) -> Result<(), Fail> {
     let mut memory = [0; 512];
-    work(&rt, NumberRegister::new(&mut memory))
+    let method = NetMargin::new([60_000; 8]);
+    let mut book = Book::new(NumberRegister::new(&mut memory), method, method);
+    book.deposit(1, 0, 0, 7)?;
+    refused(&rt, &mut book);
+    accepted(&rt, &mut book);
+    Ok(())
 }

@@ -2,7 +2,8 @@ use book::orders::MarginBook;
 use rules::refusal::Refusal;
 use std::process::Abort;
 
-/// An order with its numbers, in the order of the call's parameters.
+/// An order with its numbers, in the order of the call's parameters. They have no names, so that a history reads as a
+/// table with a line for each order.
 #[derive(Clone, Copy)]
 pub enum Given {
     Open(u16, u8),
@@ -15,6 +16,9 @@ pub enum Given {
     Settle(u8),
     Seize(u8, u16, u8, u8, u16, u64),
 }
+
+/// An order and what it must be answered.
+pub type Step = (Given, Result<(), Refusal>);
 
 /// Gives one order to a book.
 pub fn give<B: MarginBook>(book: &mut B, given: Given) -> Result<(), Refusal> {
@@ -41,17 +45,9 @@ pub fn give<B: MarginBook>(book: &mut B, given: Given) -> Result<(), Refusal> {
     }
 }
 
-/// The number of an answer, 0 for accepted.
-pub fn number(answer: Result<(), Refusal>) -> u8 {
-    match answer {
-        Ok(()) => 0,
-        Err(refusal) => refusal.number(),
-    }
-}
-
-/// Gives orders one after the other and compares the number of each answer.
-pub fn walk<B: MarginBook>(rt: &impl Abort, book: &mut B, steps: &[(Given, u8)]) {
+/// Gives orders one after the other and compares each answer.
+pub fn walk<B: MarginBook>(rt: &impl Abort, book: &mut B, steps: &[Step]) {
     for (given, expected) in steps {
-        assert_eq!(rt; number(give(book, *given)), *expected);
+        assert_eq!(rt; give(book, *given), *expected);
     }
 }

@@ -1,12 +1,15 @@
-use crate::given::{Given, walk};
+use crate::given::{Given, Step, walk};
 use book::book::Book;
 use book::orders::MarginBook;
-use custody::custodian::Custodian;
 use custody::page::BytePage;
 use custody::register::NumberRegister;
 use custody::split::SplitCustodian;
 use margin::gross::GrossMargin;
 use margin::net::NetMargin;
+use rules::refusal::Refusal::{
+    BelowMaintenance, BeyondEntitlement, OpenPositions, OutOfRange, TooFewUnits, WrongAccount,
+    WrongAsset, WrongParticipant, WrongPocket, WrongStanding,
+};
 use std::process::Abort;
 use std::test::Fail;
 
@@ -17,42 +20,28 @@ const MOST: u32 = 1_000_000;
 /// One history: its orders with their answers, and then the claim on account 8 and the claim and the sum retained of
 /// participant 0.
 struct History<'a> {
-    steps: &'a [(Given, u8)],
+    steps: &'a [Step],
     claim: u64,
     participant: (u64, u64),
 }
 
-fn work<Custody: Custodian + Drop>(
-    rt: &impl Abort,
-    custody: Custody,
-    history: &History,
-) -> Result<(), Fail> {
-    let rates = [60_000; 8];
-    let mut book = Book::new(custody, NetMargin::new(rates), GrossMargin::new(rates));
-    walk(rt, &mut book, history.steps);
-    let claim = match book.customer(8) {
-        Ok((claim, _)) => claim,
-        Err(_) => 0,
-    };
-    assert_eq!(rt; claim, history.claim);
-    assert_eq!(rt; book.participant(0)?, history.participant);
-    Ok(())
-}
-
-// On a fresh book over a split of a register and a page, both over used memory.
-fn work_on_split(rt: &impl Abort, history: &History) -> Result<(), Fail> {
-    let mut numbers = [7; 512];
-    let mut bytes = [7; 4096];
-    work(
-        rt,
-        SplitCustodian::new(NumberRegister::new(&mut numbers), BytePage::new(&mut bytes)),
-        history,
-    )
-}
-
+// Each on a fresh book over a split of a register and a page, both over used memory.
 fn work_all(rt: &impl Abort, histories: &[History]) -> Result<(), Fail> {
     for history in histories {
-        work_on_split(rt, history)?;
+        let mut numbers = [7; 512];
+        let mut bytes = [7; 4096];
+        let custody = SplitCustodian::new(
+            NumberRegister::new(&mut numbers),
+            BytePage::new(&mut bytes),
+        );
+        let rates = [60_000; 8];
+        let mut book = Book::new(custody, NetMargin::new(rates), GrossMargin::new(rates));
+        walk(rt, &mut book, history.steps);
+        assert_eq!(rt;
+            book.customer(8).map_or(0, |(claim, _)| claim),
+            history.claim
+        );
+        assert_eq!(rt; book.participant(0)?, history.participant);
     }
     Ok(())
 }
@@ -65,13 +54,13 @@ fn withdrawals(rt: HostRuntime) -> Result<(), Fail> {
             // one yen more than the customer may claim, and what it may
             History {
                 steps: &[
-                    (Given::Open(8, 0), 0),
-                    (Given::Deposit(8, 0, 0, 150), 0),
-                    (Given::Declare(8, 0, 100, 80), 0),
-                    (Given::Withdraw(8, 0, 0, 51), 14),
-                    (Given::Withdraw(0, 0, 0, 20), 12),
-                    (Given::Withdraw(8, 1, 0, 20), 12),
-                    (Given::Withdraw(8, 0, 0, 50), 0),
+                    (Given::Open(8, 0), Ok(())),
+                    (Given::Deposit(8, 0, 0, 150), Ok(())),
+                    (Given::Declare(8, 0, 100, 80), Ok(())),
+                    (Given::Withdraw(8, 0, 0, 51), Err(BeyondEntitlement)),
+                    (Given::Withdraw(0, 0, 0, 20), Err(TooFewUnits)),
+                    (Given::Withdraw(8, 1, 0, 20), Err(TooFewUnits)),
+                    (Given::Withdraw(8, 0, 0, 50), Ok(())),
                 ],
                 claim: 0,
                 participant: (20, 80),
@@ -79,13 +68,13 @@ fn withdrawals(rt: HostRuntime) -> Result<(), Fail> {
             // 41 yen of replacement margin are too much, and 40 are not
             History {
                 steps: &[
-                    (Given::Open(8, 0), 0),
-                    (Given::Deposit(8, 1, 0, 300), 0),
-                    (Given::Declare(8, 200, 50, 120), 0),
-                    (Given::Deposit(0, 0, 0, 30), 0),
-                    (Given::Declare(0, 0, 0, 20), 0),
-                    (Given::Withdraw(8, 1, 0, 41), 14),
-                    (Given::Withdraw(8, 1, 0, 40), 0),
+                    (Given::Open(8, 0), Ok(())),
+                    (Given::Deposit(8, 1, 0, 300), Ok(())),
+                    (Given::Declare(8, 200, 50, 120), Ok(())),
+                    (Given::Deposit(0, 0, 0, 30), Ok(())),
+                    (Given::Declare(0, 0, 0, 20), Ok(())),
+                    (Given::Withdraw(8, 1, 0, 41), Err(BeyondEntitlement)),
+                    (Given::Withdraw(8, 1, 0, 40), Ok(())),
                 ],
                 claim: 150,
                 participant: (0, 140),
@@ -93,12 +82,12 @@ fn withdrawals(rt: HostRuntime) -> Result<(), Fail> {
             // the maintenance amount before the debts, the holding before both
             History {
                 steps: &[
-                    (Given::Open(8, 0), 0),
-                    (Given::Deposit(8, 0, 0, 60_000), 0),
-                    (Given::Position(8, 0, 1, 0), 0),
-                    (Given::Declare(8, 0, 60_000, 0), 0),
-                    (Given::Withdraw(8, 0, 0, 60_001), 12),
-                    (Given::Withdraw(8, 0, 0, 1), 13),
+                    (Given::Open(8, 0), Ok(())),
+                    (Given::Deposit(8, 0, 0, 60_000), Ok(())),
+                    (Given::Position(8, 0, 1, 0), Ok(())),
+                    (Given::Declare(8, 0, 60_000, 0), Ok(())),
+                    (Given::Withdraw(8, 0, 0, 60_001), Err(TooFewUnits)),
+                    (Given::Withdraw(8, 0, 0, 1), Err(BelowMaintenance)),
                 ],
                 claim: 0,
                 participant: (60_000, 0),
@@ -106,12 +95,12 @@ fn withdrawals(rt: HostRuntime) -> Result<(), Fail> {
             // replacement margin that does not exceed the customer margin stays, but what is worth nothing may leave
             History {
                 steps: &[
-                    (Given::Open(8, 0), 0),
-                    (Given::Mark(3, 5, 0), 0),
-                    (Given::Deposit(8, 1, 3, 3), 0),
-                    (Given::Declare(8, 200, 0, 0), 0),
-                    (Given::Withdraw(8, 1, 3, 1), 0),
-                    (Given::Withdraw(8, 1, 3, 1), 14),
+                    (Given::Open(8, 0), Ok(())),
+                    (Given::Mark(3, 5, 0), Ok(())),
+                    (Given::Deposit(8, 1, 3, 3), Ok(())),
+                    (Given::Declare(8, 200, 0, 0), Ok(())),
+                    (Given::Withdraw(8, 1, 3, 1), Ok(())),
+                    (Given::Withdraw(8, 1, 3, 1), Err(BeyondEntitlement)),
                 ],
                 claim: 1,
                 participant: (0, 0),
@@ -119,10 +108,10 @@ fn withdrawals(rt: HostRuntime) -> Result<(), Fail> {
             // of yen not even one may leave
             History {
                 steps: &[
-                    (Given::Open(8, 0), 0),
-                    (Given::Deposit(8, 1, 0, 100), 0),
-                    (Given::Declare(8, 200, 0, 0), 0),
-                    (Given::Withdraw(8, 1, 0, 1), 14),
+                    (Given::Open(8, 0), Ok(())),
+                    (Given::Deposit(8, 1, 0, 100), Ok(())),
+                    (Given::Declare(8, 200, 0, 0), Ok(())),
+                    (Given::Withdraw(8, 1, 0, 1), Err(BeyondEntitlement)),
                 ],
                 claim: 100,
                 participant: (0, 0),
@@ -130,10 +119,10 @@ fn withdrawals(rt: HostRuntime) -> Result<(), Fail> {
             // units without a price leave in spite of debts
             History {
                 steps: &[
-                    (Given::Open(8, 0), 0),
-                    (Given::Deposit(8, 0, 3, 10), 0),
-                    (Given::Declare(8, 0, 100, 100), 0),
-                    (Given::Withdraw(8, 0, 3, 10), 0),
+                    (Given::Open(8, 0), Ok(())),
+                    (Given::Deposit(8, 0, 3, 10), Ok(())),
+                    (Given::Declare(8, 0, 100, 100), Ok(())),
+                    (Given::Withdraw(8, 0, 3, 10), Ok(())),
                 ],
                 claim: 0,
                 participant: (0, 0),
@@ -150,12 +139,12 @@ fn seizures(rt: HostRuntime) -> Result<(), Fail> {
             // one share out of two at 5 takes 1 yen, though one share alone is worth nothing
             History {
                 steps: &[
-                    (Given::Open(8, 0), 0),
-                    (Given::Mark(3, 5, 0), 0),
-                    (Given::Deposit(8, 0, 3, 2), 0),
-                    (Given::Declare(8, 0, 1, 1), 0),
-                    (Given::Suspend(0), 0),
-                    (Given::Seize(0, 8, 0, 3, 8, 1), 0),
+                    (Given::Open(8, 0), Ok(())),
+                    (Given::Mark(3, 5, 0), Ok(())),
+                    (Given::Deposit(8, 0, 3, 2), Ok(())),
+                    (Given::Declare(8, 0, 1, 1), Ok(())),
+                    (Given::Suspend(0), Ok(())),
+                    (Given::Seize(0, 8, 0, 3, 8, 1), Ok(())),
                 ],
                 claim: 0,
                 participant: (0, 0),
@@ -163,12 +152,12 @@ fn seizures(rt: HostRuntime) -> Result<(), Fail> {
             // one share out of two at 15 takes 2 yen, though one share alone is worth 1
             History {
                 steps: &[
-                    (Given::Open(8, 0), 0),
-                    (Given::Mark(3, 15, 0), 0),
-                    (Given::Deposit(8, 0, 3, 2), 0),
-                    (Given::Declare(8, 0, 1, 1), 0),
-                    (Given::Suspend(0), 0),
-                    (Given::Seize(0, 8, 0, 3, 8, 1), 14),
+                    (Given::Open(8, 0), Ok(())),
+                    (Given::Mark(3, 15, 0), Ok(())),
+                    (Given::Deposit(8, 0, 3, 2), Ok(())),
+                    (Given::Declare(8, 0, 1, 1), Ok(())),
+                    (Given::Suspend(0), Ok(())),
+                    (Given::Seize(0, 8, 0, 3, 8, 1), Err(BeyondEntitlement)),
                 ],
                 claim: 2,
                 participant: (0, 1),
@@ -176,12 +165,12 @@ fn seizures(rt: HostRuntime) -> Result<(), Fail> {
             // a house account pays for itself, up to its own debt
             History {
                 steps: &[
-                    (Given::Deposit(0, 0, 0, 50), 0),
-                    (Given::Declare(0, 0, 0, 30), 0),
-                    (Given::Seize(1, 0, 0, 0, 0, 30), 10),
-                    (Given::Suspend(0), 0),
-                    (Given::Seize(1, 0, 0, 0, 0, 31), 14),
-                    (Given::Seize(1, 0, 0, 0, 0, 30), 0),
+                    (Given::Deposit(0, 0, 0, 50), Ok(())),
+                    (Given::Declare(0, 0, 0, 30), Ok(())),
+                    (Given::Seize(1, 0, 0, 0, 0, 30), Err(WrongStanding)),
+                    (Given::Suspend(0), Ok(())),
+                    (Given::Seize(1, 0, 0, 0, 0, 31), Err(BeyondEntitlement)),
+                    (Given::Seize(1, 0, 0, 0, 0, 30), Ok(())),
                 ],
                 claim: 0,
                 participant: (20, 0),
@@ -189,12 +178,12 @@ fn seizures(rt: HostRuntime) -> Result<(), Fail> {
             // replacement margin pays for the rest of its own account, up to its excess
             History {
                 steps: &[
-                    (Given::Open(8, 0), 0),
-                    (Given::Deposit(8, 1, 0, 100), 0),
-                    (Given::Declare(8, 40, 0, 70), 0),
-                    (Given::Suspend(0), 0),
-                    (Given::Seize(1, 8, 1, 0, 8, 61), 14),
-                    (Given::Seize(1, 8, 1, 0, 8, 60), 0),
+                    (Given::Open(8, 0), Ok(())),
+                    (Given::Deposit(8, 1, 0, 100), Ok(())),
+                    (Given::Declare(8, 40, 0, 70), Ok(())),
+                    (Given::Suspend(0), Ok(())),
+                    (Given::Seize(1, 8, 1, 0, 8, 61), Err(BeyondEntitlement)),
+                    (Given::Seize(1, 8, 1, 0, 8, 60), Ok(())),
                 ],
                 claim: 40,
                 participant: (0, 0),
@@ -202,13 +191,13 @@ fn seizures(rt: HostRuntime) -> Result<(), Fail> {
             // an account pays for itself out of what stands in for customer margin, and no more
             History {
                 steps: &[
-                    (Given::Open(8, 0), 0),
-                    (Given::Deposit(8, 0, 0, 100), 0),
-                    (Given::Deposit(8, 1, 0, 50), 0),
-                    (Given::Declare(8, 20, 80, 80), 0),
-                    (Given::Suspend(0), 0),
-                    (Given::Seize(0, 8, 1, 0, 8, 21), 14),
-                    (Given::Seize(0, 8, 1, 0, 8, 20), 0),
+                    (Given::Open(8, 0), Ok(())),
+                    (Given::Deposit(8, 0, 0, 100), Ok(())),
+                    (Given::Deposit(8, 1, 0, 50), Ok(())),
+                    (Given::Declare(8, 20, 80, 80), Ok(())),
+                    (Given::Suspend(0), Ok(())),
+                    (Given::Seize(0, 8, 1, 0, 8, 21), Err(BeyondEntitlement)),
+                    (Given::Seize(0, 8, 1, 0, 8, 20), Ok(())),
                 ],
                 claim: 40,
                 participant: (30, 60),
@@ -216,12 +205,12 @@ fn seizures(rt: HostRuntime) -> Result<(), Fail> {
             // and no more than is kept of it
             History {
                 steps: &[
-                    (Given::Open(8, 0), 0),
-                    (Given::Deposit(8, 1, 0, 50), 0),
-                    (Given::Declare(8, 50, 30, 10), 0),
-                    (Given::Suspend(0), 0),
-                    (Given::Seize(0, 8, 1, 0, 8, 11), 14),
-                    (Given::Seize(0, 8, 1, 0, 8, 10), 0),
+                    (Given::Open(8, 0), Ok(())),
+                    (Given::Deposit(8, 1, 0, 50), Ok(())),
+                    (Given::Declare(8, 50, 30, 10), Ok(())),
+                    (Given::Suspend(0), Ok(())),
+                    (Given::Seize(0, 8, 1, 0, 8, 11), Err(BeyondEntitlement)),
+                    (Given::Seize(0, 8, 1, 0, 8, 10), Ok(())),
                 ],
                 claim: 20,
                 participant: (20, 0),
@@ -229,13 +218,13 @@ fn seizures(rt: HostRuntime) -> Result<(), Fail> {
             // another account's replacement margin pays 2 yen with one share of two
             History {
                 steps: &[
-                    (Given::Open(8, 0), 0),
-                    (Given::Open(9, 0), 0),
-                    (Given::Mark(3, 15, 0), 0),
-                    (Given::Deposit(9, 1, 3, 2), 0),
-                    (Given::Declare(8, 0, 0, 10), 0),
-                    (Given::Suspend(0), 0),
-                    (Given::Seize(1, 9, 1, 3, 8, 1), 0),
+                    (Given::Open(8, 0), Ok(())),
+                    (Given::Open(9, 0), Ok(())),
+                    (Given::Mark(3, 15, 0), Ok(())),
+                    (Given::Deposit(9, 1, 3, 2), Ok(())),
+                    (Given::Declare(8, 0, 0, 10), Ok(())),
+                    (Given::Suspend(0), Ok(())),
+                    (Given::Seize(1, 9, 1, 3, 8, 1), Ok(())),
                 ],
                 claim: 0,
                 participant: (0, 1),
@@ -243,13 +232,13 @@ fn seizures(rt: HostRuntime) -> Result<(), Fail> {
             // and 1 yen with one share of three
             History {
                 steps: &[
-                    (Given::Open(8, 0), 0),
-                    (Given::Open(9, 0), 0),
-                    (Given::Mark(3, 15, 0), 0),
-                    (Given::Deposit(9, 1, 3, 3), 0),
-                    (Given::Declare(8, 0, 0, 10), 0),
-                    (Given::Suspend(0), 0),
-                    (Given::Seize(1, 9, 1, 3, 8, 1), 0),
+                    (Given::Open(8, 0), Ok(())),
+                    (Given::Open(9, 0), Ok(())),
+                    (Given::Mark(3, 15, 0), Ok(())),
+                    (Given::Deposit(9, 1, 3, 3), Ok(())),
+                    (Given::Declare(8, 0, 0, 10), Ok(())),
+                    (Given::Suspend(0), Ok(())),
+                    (Given::Seize(1, 9, 1, 3, 8, 1), Ok(())),
                 ],
                 claim: 0,
                 participant: (0, 3),
@@ -257,20 +246,20 @@ fn seizures(rt: HostRuntime) -> Result<(), Fail> {
             // two participants before a wrong side, and two accounts on side 0
             History {
                 steps: &[
-                    (Given::Open(8, 0), 0),
-                    (Given::Open(9, 1), 0),
-                    (Given::Open(10, 0), 0),
-                    (Given::Seize(2, 8, 0, 0, 9, 1), 6),
-                    (Given::Seize(2, 8, 0, 0, 10, 1), 7),
-                    (Given::Seize(0, 8, 0, 0, 10, 1), 7),
-                    (Given::Seize(0, 0, 0, 0, 0, 1), 7),
-                    (Given::Seize(1, 8, 0, 0, 8, 1), 7),
-                    (Given::Seize(0, 8, 0, 4, 8, 0), 8),
-                    (Given::Seize(0, 8, 0, 0, 8, 0), 9),
-                    (Given::Seize(0, 8, 0, 0, 11, 1), 5),
-                    (Given::Seize(0, 65_535, 255, 255, 8, 0), 5),
-                    (Given::Suspend(0), 0),
-                    (Given::Seize(0, 8, 0, 0, 8, 1), 12),
+                    (Given::Open(8, 0), Ok(())),
+                    (Given::Open(9, 1), Ok(())),
+                    (Given::Open(10, 0), Ok(())),
+                    (Given::Seize(2, 8, 0, 0, 9, 1), Err(WrongParticipant)),
+                    (Given::Seize(2, 8, 0, 0, 10, 1), Err(WrongPocket)),
+                    (Given::Seize(0, 8, 0, 0, 10, 1), Err(WrongPocket)),
+                    (Given::Seize(0, 0, 0, 0, 0, 1), Err(WrongPocket)),
+                    (Given::Seize(1, 8, 0, 0, 8, 1), Err(WrongPocket)),
+                    (Given::Seize(0, 8, 0, 4, 8, 0), Err(WrongAsset)),
+                    (Given::Seize(0, 8, 0, 0, 8, 0), Err(OutOfRange)),
+                    (Given::Seize(0, 8, 0, 0, 11, 1), Err(WrongAccount)),
+                    (Given::Seize(0, 65_535, 255, 255, 8, 0), Err(WrongAccount)),
+                    (Given::Suspend(0), Ok(())),
+                    (Given::Seize(0, 8, 0, 0, 8, 1), Err(TooFewUnits)),
                 ],
                 claim: 0,
                 participant: (0, 0),
@@ -286,31 +275,31 @@ fn limits_and_standings(rt: HostRuntime) -> Result<(), Fail> {
         &[
             History {
                 steps: &[
-                    (Given::Mark(0, 100_001, 1_001), 8),
-                    (Given::Mark(4, 100_001, 0), 8),
-                    (Given::Mark(1, 100_001, 0), 9),
-                    (Given::Mark(1, 100_000, 1_000), 0),
-                    (Given::Declare(0, 1, 0, 0), 9),
-                    (Given::Declare(0, 0, 1, 0), 9),
-                    (Given::Declare(0, 0, 0, LIMIT + 1), 9),
-                    (Given::Declare(0, 0, 0, LIMIT), 0),
+                    (Given::Mark(0, 100_001, 1_001), Err(WrongAsset)),
+                    (Given::Mark(4, 100_001, 0), Err(WrongAsset)),
+                    (Given::Mark(1, 100_001, 0), Err(OutOfRange)),
+                    (Given::Mark(1, 100_000, 1_000), Ok(())),
+                    (Given::Declare(0, 1, 0, 0), Err(OutOfRange)),
+                    (Given::Declare(0, 0, 1, 0), Err(OutOfRange)),
+                    (Given::Declare(0, 0, 0, LIMIT + 1), Err(OutOfRange)),
+                    (Given::Declare(0, 0, 0, LIMIT), Ok(())),
                 ],
                 claim: 0,
                 participant: (0, 0),
             },
             History {
                 steps: &[
-                    (Given::Open(8, 0), 0),
-                    (Given::Position(8, 7, MOST, MOST), 0),
-                    (Given::Position(8, 8, 0, 0), 9),
-                    (Given::Position(8, 0, MOST + 1, 0), 9),
-                    (Given::Suspend(0), 0),
-                    (Given::Withdraw(8, 0, 0, 1), 10),
-                    (Given::Position(8, 7, MOST, MOST), 0),
-                    (Given::Position(8, 7, 0, 0), 0),
-                    (Given::Settle(0), 0),
-                    (Given::Position(8, 0, 0, 0), 10),
-                    (Given::Position(8, 0, MOST + 1, 0), 9),
+                    (Given::Open(8, 0), Ok(())),
+                    (Given::Position(8, 7, MOST, MOST), Ok(())),
+                    (Given::Position(8, 8, 0, 0), Err(OutOfRange)),
+                    (Given::Position(8, 0, MOST + 1, 0), Err(OutOfRange)),
+                    (Given::Suspend(0), Ok(())),
+                    (Given::Withdraw(8, 0, 0, 1), Err(WrongStanding)),
+                    (Given::Position(8, 7, MOST, MOST), Ok(())),
+                    (Given::Position(8, 7, 0, 0), Ok(())),
+                    (Given::Settle(0), Ok(())),
+                    (Given::Position(8, 0, 0, 0), Err(WrongStanding)),
+                    (Given::Position(8, 0, MOST + 1, 0), Err(OutOfRange)),
                 ],
                 claim: 0,
                 participant: (0, 0),
@@ -318,22 +307,22 @@ fn limits_and_standings(rt: HostRuntime) -> Result<(), Fail> {
             // a default from beginning to end, and what is still done after it
             History {
                 steps: &[
-                    (Given::Open(8, 0), 0),
-                    (Given::Position(8, 0, 5, 0), 0),
-                    (Given::Settle(0), 10),
-                    (Given::Suspend(0), 0),
-                    (Given::Suspend(0), 10),
-                    (Given::Position(8, 0, 5, 5), 10),
-                    (Given::Settle(0), 15),
-                    (Given::Position(8, 0, 0, 0), 0),
-                    (Given::Settle(0), 0),
-                    (Given::Settle(0), 10),
-                    (Given::Suspend(0), 10),
-                    (Given::Open(9, 0), 10),
-                    (Given::Deposit(8, 0, 0, 5), 0),
-                    (Given::Withdraw(8, 0, 0, 1), 0),
-                    (Given::Declare(8, 0, 2, 2), 0),
-                    (Given::Seize(0, 8, 0, 0, 8, 2), 0),
+                    (Given::Open(8, 0), Ok(())),
+                    (Given::Position(8, 0, 5, 0), Ok(())),
+                    (Given::Settle(0), Err(WrongStanding)),
+                    (Given::Suspend(0), Ok(())),
+                    (Given::Suspend(0), Err(WrongStanding)),
+                    (Given::Position(8, 0, 5, 5), Err(WrongStanding)),
+                    (Given::Settle(0), Err(OpenPositions)),
+                    (Given::Position(8, 0, 0, 0), Ok(())),
+                    (Given::Settle(0), Ok(())),
+                    (Given::Settle(0), Err(WrongStanding)),
+                    (Given::Suspend(0), Err(WrongStanding)),
+                    (Given::Open(9, 0), Err(WrongStanding)),
+                    (Given::Deposit(8, 0, 0, 5), Ok(())),
+                    (Given::Withdraw(8, 0, 0, 1), Ok(())),
+                    (Given::Declare(8, 0, 2, 2), Ok(())),
+                    (Given::Seize(0, 8, 0, 0, 8, 2), Ok(())),
                 ],
                 claim: 2,
                 participant: (0, 0),

@@ -1,6 +1,7 @@
 -- No file has more orders than the answer list has places: an order takes two bytes or more.
-use Rattle.std.proofs.Common.{◌≡◌, ℕ, zero, suc, ◌+◌, ◌*◌, ◌≤◌, true, false, cond, eqb, ltb, List, [], ◌∷◌, length, take, Some, None, Ok, Err, Option, Result, refl, zero-le, arith, lit≤}
+use Rattle.std.proofs.Common.{◌≡◌, ℕ, zero, suc, ◌+◌, ◌*◌, ◌≤◌, true, false, cond, eqb, ltb, List, [], ◌∷◌, length, take, Some, None, Ok, Err, Option, Result, refl, zero-le, arith, rules, All, IfSome}
 use Rattle.std.proofs.lemmas.Bool.{ltb-false, le-ltb, cond-false, cond_both}
+use Rattle.std.proofs.lemmas.List.Elements.{All-head, All-tail}
 use Rattle.rules.specs.Orders.{Order}
 use Rattle.orders.specs.declared.fault.FileFault.{FileFault}
 use Rattle.orders.specs.Kinds.{Kind, size, kinds, found, order_in}
@@ -12,22 +13,20 @@ abbrev pub orders_read : Reading → ℕ
 orders_read (Ok orders) = length orders
 orders_read (Err fault) = 0
 
--- A body has a byte or more.
-abbrev Bodied : Option Kind → Type 0
-Bodied None = Unit
-Bodied (Some kind) = 1 ≤ size kind
+-- a body has a byte or more
+abbrev Bodied : Kind → Type 0
+Bodied kind = 1 ≤ size kind
 
-abbrev AllBodied : List Kind → Type 0
-AllBodied [] = Unit
-AllBodied (kind ∷ rest) = (1 ≤ size kind) × AllBodied rest
+kinds_bodied : All Bodied kinds
+kinds_bodied = search rules
 
-kinds_bodied : AllBodied kinds
-kinds_bodied = (lit≤ tt, (lit≤ tt, (lit≤ tt, (lit≤ tt, (lit≤ tt, (lit≤ tt, (lit≤ tt, (lit≤ tt, (lit≤ tt, tt)))))))))
-
-found_bodied : (kind_byte : ℕ) (all : List Kind) → AllBodied all → Bodied (found kind_byte all)
+found_bodied : (kind_byte : ℕ) (all : List Kind) → All Bodied all → IfSome (found kind_byte all) Bodied
 found_bodied kind_byte [] h = tt
 found_bodied kind_byte (kind ∷ rest) h =
-    elim (eqb kind_byte kind.number) as (λ t. Bodied (cond t (Some kind) (found kind_byte rest))) [ true ↦ h.0 | false ↦ found_bodied kind_byte rest h.1 ]
+    elim (eqb kind_byte kind.number) as (λ t. IfSome (cond t (Some kind) (found kind_byte rest)) Bodied) [
+      | true ↦ All-head Bodied kind rest h
+      | false ↦ found_bodied kind_byte rest (All-tail Bodied kind rest h)
+    ]
 
 -- an order is one more
 counted_once : (order : Order) (r : Reading) → orders_read (prepended order r) ≤ suc (orders_read r)
@@ -35,7 +34,7 @@ counted_once order (Ok orders) = omega arith
 counted_once order (Err fault) = omega arith
 
 module _ (place : ℕ) (bytes : List ℕ) (others : (n : ℕ) → n ≤ length bytes → 2 * orders_read (orders_from (place + 1) n bytes) + n ≤ length bytes) where
-  after_kind : (kind : Option Kind) → Bodied kind → 2 * orders_read (onward (order_at place kind bytes) (λ body. orders_from (place + 1) body bytes)) ≤ suc (length bytes)
+  after_kind : (kind : Option Kind) → IfSome kind Bodied → 2 * orders_read (onward (order_at place kind bytes) (λ body. orders_from (place + 1) body bytes)) ≤ suc (length bytes)
   after_kind None h = omega arith
   after_kind (Some kind) h =
       cond_both (ltb (length bytes) (size kind)) _ _ (λ (r : Result (Kind × List ℕ) FileFault). 2 * orders_read (onward (ordered r) (λ body. orders_from (place + 1) body bytes)) ≤ suc (length bytes)) (λ e. omega arith)

@@ -1,5 +1,5 @@
 -- What a run answers, with the answer list and the state that it leaves, is what the output is made of.
-use Rattle.std.proofs.Common.{◌≡◌, ℕ, List, [], ◌∷◌, ◌++◌, length, take, drop, Ok, Err, Result, refl, ap, ◌∙◌, arith}
+use Rattle.std.proofs.Common.{◌≡◌, ℕ, List, [], ◌∷◌, length, take, drop, ◌≤◌, Ok, Err, Result, refl, ap, ◌∙◌, arith}
 use Rattle.std.proofs.lemmas.List.{length-append, length-map, take_at}
 use Rattle.rules.specs.States.{State, Terms}
 use Rattle.rules.specs.Orders.{Order, after}
@@ -8,10 +8,19 @@ use Rattle.orders.specs.declared.accepted.Accepted.{Accepted}
 use Rattle.orders.specs.declared.fault.FileFault.{FileFault}
 use Rattle.orders.specs.Reading.{Reading, reading}
 use Rattle.orders.specs.Runs.{admitted, answered, state_after, list_after, answers_to}
-use Rattle.report.specs.Reports.{report}
-use Rattle.report.specs.Outcomes.{outcome_lines, AllAnswered}
+use Rattle.report.specs.Reports.{report, fault_line}
 use Rattle.report.specs.Printed.{printed_of, printed_from}
 use Rattle.report.proofs.Places.{places, never_too_few}
+
+-- what is printed by what a run of a file answers: how far its answer list is filled, or its fault
+abbrev outcome_lines : Result Accepted FileFault → (answers : List ℕ) → State → List ℕ
+outcome_lines (Ok accepted) answers s = report (take accepted.orders answers) s
+outcome_lines (Err fault) answers s = fault_line fault
+
+-- every order has its answer in the list
+abbrev AllAnswered : Result Accepted FileFault → (answers : List ℕ) → Type 0
+AllAnswered (Ok accepted) answers = accepted.orders ≤ length answers
+AllAnswered (Err fault) answers = Unit
 
 module _ (T : Terms) where
   entries : (s : State) (orders : List Order) → length (history T s orders) ≡ length orders
@@ -32,18 +41,14 @@ module _ (T : Terms) where
   whole_output s before (Ok orders) = ap (λ (answers : List ℕ). report answers (run T s orders)) (take_at (answers_to T s orders) (drop (length orders) before) (length orders) (one_each s orders))
   whole_output s before (Err fault) = refl
 
--- A file was run: what was answered, the list as the run left it, and that list read out of its memory again.
-module _ (T : Terms) (s : State) (file before : List ℕ) (outcome : Result Accepted FileFault) (list : List ℕ)
-    (answer : outcome ≡ answered (admitted file (length before))) (fill : list ≡ list_after T s before (admitted file (length before)))
-    (n : ℕ) (long : length list ≡ n) (more again : List ℕ) (back : again ≡ take n (list ++ more)) where
-  refilled : again ≡ list_after T s before (admitted file (length before))
-  refilled = back ∙ take_at list more n long ∙ fill
+-- A file was run with a place for the answer to every order that a file can have.
+module _ (T : Terms) (s : State) (file before list : List ℕ) (state : State) (many : length before ≡ places)
+    (fill : list ≡ list_after T s before (admitted file (length before))) (after_run : state ≡ state_after T s (admitted file (length before))) where
+  as_read : admitted file (length before) ≡ reading file
+  as_read = ap (admitted file) many ∙ never_too_few file
 
-  pub in_place : AllAnswered outcome again
-  in_place = rw (answer, refilled) (all_answered T s before (admitted file (length before)))
+  pub in_place : (outcome : Result Accepted FileFault) → outcome ≡ answered (admitted file (length before)) → AllAnswered outcome list
+  in_place outcome answer = rw (answer, fill) (all_answered T s before (admitted file (length before)))
 
-  pub all_printed : length before ≡ places → (state : State) → state ≡ state_after T s (admitted file (length before))
-      → (start out : List ℕ) → start ≡ [] → out ≡ start ++ outcome_lines outcome again state → out ≡ printed_from T s file
-  all_printed many state after_run start out nothing put =
-      let r : admitted file (length before) ≡ reading file = ap (admitted file) many ∙ never_too_few file in
-      put ∙ rw (nothing, answer, refilled, after_run) (whole_output T s before (admitted file (length before))) ∙ ap (printed_of T s) r
+  pub all_printed : (outcome : Result Accepted FileFault) → outcome ≡ answered (admitted file (length before)) → outcome_lines outcome list state ≡ printed_from T s file
+  all_printed outcome answer = rw (answer, fill, after_run) (whole_output T s before (admitted file (length before))) ∙ ap (printed_of T s) as_read

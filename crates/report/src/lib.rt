@@ -2,9 +2,6 @@
 #![tactic(auto)]
 
 pub mod answer;
-mod entries;
-mod fields;
-mod lines;
 mod printing;
 pub mod sample;
 mod sections;

@@ -1,57 +1,67 @@
-ghost use Rattle.std.specs.Prelude.{◌≡◌, ◌++◌, IfOk};
+ghost use Rattle.std.specs.Prelude.{Some};
 ghost use Rattle.rules.specs.Sizes.{accounts, participants};
 ghost use Rattle.report.specs.Lines.{in_turn};
-ghost use Rattle.report.specs.Reports.{order_lines, account_lines, participant_lines, report};
+ghost use Rattle.report.specs.Reports.{order_lines, account_lines, participant_lines};
 
-use crate::entries::{push_customer, push_figures, push_order};
 use book::orders::MarginBook;
 use rules::sizes::{ACCOUNTS, PARTICIPANTS};
-use std::alloc::AllocError;
+use std::fmt;
 
-/// Appends a line for each answer.
-fn push_orders(mut out: Vec<u8>, answers: &[u8]) -> Result<Vec<u8>, AllocError>
-    ensures { IfOk result (λ v. v.items ≡ out.items ++ order_lines answers.now) }
-{
-    for (index, answer) in answers.iter().enumerate() {
-        out = push_order(out, index, *answer)?;
-    }
-    Ok(out)
+/// A line for the answer to each order. The orders are numbered from 1.
+#[derive(Clone, Copy)]
+pub(crate) struct OrderLines<'a> {
+    pub(crate) answers: &'a [u8],
 }
 
-/// Appends what is printed of each account.
-fn push_accounts<B: MarginBook>(mut out: Vec<u8>, book: &B) -> Result<Vec<u8>, AllocError>
-    ensures { IfOk result (λ v. v.items ≡ out.items ++ in_turn accounts (account_lines (B.MarginBook.state book.now))) }
-{
-    for account in 0..ACCOUNTS {
-        out = push_customer(
-            out,
-            account,
-            book.participant_of(account),
-            book.customer(account),
-        )?;
+impl fmt::Display for OrderLines<'_> {
+    ghost output = { λ lines. Some (order_lines lines.answers.now) };
+
+    fn fmt<W: fmt::Write>(&self, f: &mut fmt::Formatter<W>) -> fmt::Result {
+        for (index, answer) in self.answers.iter().enumerate() {
+            writeln!(f, "ORDER {} {answer}", index + 1)?;
+        }
+        Ok(())
     }
-    Ok(out)
 }
 
-/// Appends what is printed of each participant.
-fn push_participants<B: MarginBook>(mut out: Vec<u8>, book: &B) -> Result<Vec<u8>, AllocError>
-    ensures { IfOk result (λ v. v.items ≡ out.items ++ in_turn participants (participant_lines (B.MarginBook.state book.now))) }
-{
-    for participant in 0..PARTICIPANTS {
-        out = push_figures(out, participant, book.participant(participant))?;
-    }
-    Ok(out)
+/// A line for each open customer account of a book, in rising number.
+#[derive(Drop)]
+pub(crate) struct AccountLines<'a, B> {
+    pub(crate) book: &'a B,
 }
 
-/// Appends the whole report of a run, given its answers and the book after it.
-pub(crate) fn push_report<B: MarginBook>(
-    out: Vec<u8>,
-    answers: &[u8],
-    book: &B,
-) -> Result<Vec<u8>, AllocError>
-    ensures { IfOk result (λ v. v.items ≡ out.items ++ report answers.now (B.MarginBook.state book.now)) }
-{
-    let out = push_orders(out, answers)?;
-    let out = push_accounts(out, book)?;
-    push_participants(out, book)
+impl<B: MarginBook> fmt::Display for AccountLines<'_, B> {
+    ghost output = { λ lines. Some (in_turn accounts (account_lines (B.MarginBook.state lines.book.now))) };
+
+    #[tactic(auto, using(crate::proofs::InTurn::none_yet, crate::proofs::InTurn::one_more, crate::proofs::InTurn::one_empty), unfolding(crate::specs::Reports::account_lines))]
+    fn fmt<W: fmt::Write>(&self, f: &mut fmt::Formatter<W>) -> fmt::Result {
+        for account in 0..ACCOUNTS {
+            if let Ok(participant) = self.book.participant_of(account)
+                && let Ok((claim, _)) = self.book.customer(account)
+            {
+                writeln!(f, "CUST {account} {participant} {claim}")?;
+            }
+        }
+        Ok(())
+    }
+}
+
+/// A line for each participant of a book, in rising number.
+#[derive(Drop)]
+pub(crate) struct ParticipantLines<'a, B> {
+    pub(crate) book: &'a B,
+}
+
+impl<B: MarginBook> fmt::Display for ParticipantLines<'_, B> {
+    ghost output = { λ lines. Some (in_turn participants (participant_lines (B.MarginBook.state lines.book.now))) };
+
+    #[tactic(auto, using(crate::proofs::InTurn::none_yet, crate::proofs::InTurn::one_more, crate::proofs::InTurn::one_empty), unfolding(crate::specs::Reports::participant_lines))]
+    fn fmt<W: fmt::Write>(&self, f: &mut fmt::Formatter<W>) -> fmt::Result {
+        for participant in 0..PARTICIPANTS {
+            if let Ok((claim, retained)) = self.book.participant(participant) {
+                writeln!(f, "PART {participant} {claim} {retained}")?;
+            }
+        }
+        Ok(())
+    }
 }

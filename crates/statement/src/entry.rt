@@ -10,13 +10,14 @@ pub struct Entry<'a> {
 
 impl fmt::Display for Entry<'_> {
     fn fmt<W: fmt::Write>(&self, f: &mut fmt::Formatter<W>) -> fmt::Result {
-        let order = self.order;
         match self.answer {
-            Ok(()) => write!(f, "accepted    {order}"),
-            Err(refusal) => {
-                let number = refusal.number();
-                write!(f, "refused {number:>2}  {order}: {refusal}")
-            }
+            Ok(()) => write!(f, "accepted    {}", self.order),
+            Err(refusal) => write!(
+                f,
+                "refused {:>2}  {}: {refusal}",
+                refusal.number(),
+                self.order
+            ),
         }
     }
 }

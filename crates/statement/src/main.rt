@@ -10,7 +10,6 @@ mod parties;
 
 use book::book::Book;
 use book::orders::MarginBook;
-use custody::custodian::Custodian;
 use custody::register::NumberRegister;
 use entry::Entry;
 use margin::net::NetMargin;
@@ -20,12 +19,8 @@ use rules::sizes::{BOXES, CONTRACTS};
 /// Yen of margin for a lot of each contract. (No account here has an open lot.)
 const RATES: [u32; CONTRACTS] = [60_000; CONTRACTS];
 
-/// Works through the case on a fresh book over a custodian, and prints each order with its answer and then all claims.
-fn work_through<Custody: Custodian + Drop>(
-    rt: &HostRuntime,
-    custody: Custody,
-) -> anyhow::Result<()> {
-    let mut book = Book::new(custody, NetMargin::new(RATES), NetMargin::new(RATES));
+/// Works through the case on a fresh book, and prints each order with its answer and then all claims.
+fn work_through<B: MarginBook>(rt: &HostRuntime, book: &mut B) -> anyhow::Result<()> {
     let entries = [
         Entry {
             order: "open account 8 under participant 0",
@@ -55,11 +50,13 @@ fn work_through<Custody: Custodian + Drop>(
     for entry in &entries {
         rt.println(entry)?;
     }
-    rt.print(&Parties { book: &book })?;
+    rt.print(&Parties { book })?;
     Ok(())
 }
 
 fn main(rt: HostRuntime) -> anyhow::Result<()> {
     let mut memory = [0; BOXES];
-    work_through(&rt, NumberRegister::new(&mut memory))
+    let method = NetMargin::new(RATES);
+    let mut book = Book::new(NumberRegister::new(&mut memory), method, method);
+    work_through(&rt, &mut book)
 }

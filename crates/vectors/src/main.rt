@@ -17,16 +17,15 @@ fn agrees(rt: &HostRuntime, number: u32) -> anyhow::Result<bool> {
     let heap = rt.alloc();
     let file = fs::read(rt, format!(in heap; "{number:03}.orders")?)?;
     let expected = fs::read(rt, format!(in heap; "{number:03}.claims")?)?;
-    let printed = answer(heap, &file)?;
-    Ok(printed.as_slice() == expected.as_slice())
+    Ok(answer(heap, &file)? == expected)
 }
 
 /// Runs all files, and names those that print something else.
 fn compare_all(rt: &HostRuntime) -> anyhow::Result<()> {
-    let mut agreed: u32 = 0;
+    let mut agreed = 0u32;
     for number in 0..FILES {
         if agrees(rt, number)? {
-            agreed = agreed.saturating_add(1);
+            agreed += 1;
         } else {
             println!(rt; "{number:03}.orders prints something else")?;
         }

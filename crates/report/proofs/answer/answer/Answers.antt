@@ -1,13 +1,11 @@
-use Rattle.std.proofs.Common.{length, ap, ◌∙◌}
-use Rattle.std.proofs.lemmas.Result.{IfOk-from_err}
-use Rattle.report.proofs.Program.{whole_room}
+use Rattle.std.proofs.Common.{length, vec_items, ap, ◌∙◌}
+use Rattle.report.proofs.Program.{whole_room, terms_are, fresh_printed}
 use Rattle.report.proofs.answer.answer.Goals as goal
 
-pub returns-in_err-bytes : goal.returns-in_err-bytes
-returns-in_err-bytes c = IfOk-from_err _ _ c.from_residual-in_err-bytes.ensures.0
-
-pub print_fresh-requires : goal.print_fresh-requires
-print_fresh-requires c =
-    whole_room _ _
-    (ap (λ r. length r.memory.now) c.new.ensures.first ∙ ap length c.new-register.ensures.memory ∙ c.as_mut_slice.ensures.len ∙ c.in_ok-numbers.ensures)
-    (ap (λ p. length p.memory.now) c.new.ensures.second ∙ ap length c.new-page.ensures.memory ∙ c.as_mut_slice-2.ensures.len ∙ c.in_ok-bytes.ensures)
+pub returns : goal.returns
+returns c =
+    let room = whole_room _ _
+    (ap (λ r. length r.memory.now) c.new-custody.ensures.first ∙ ap length c.new.ensures.memory ∙ c.deref_mut.ensures.len ∙ c.in_ok-numbers.ensures.len)
+    (ap (λ p. length p.memory.now) c.new-custody.ensures.second ∙ ap length c.new-2.ensures.memory ∙ c.deref_mut-2.ensures.len ∙ c.in_ok-bytes.ensures.len) in
+    let terms = c.new-book.ensures.terms ∙ terms_are _ _ _ room c.new-3.ensures c.new-4.ensures in
+    ap vec_items c.into_bytes.ensures.value ∙ c.in_ok-print_run.ensures ∙ fresh_printed _ _ _ terms c.new-book.ensures.promise.fresh
