@@ -223,14 +223,15 @@ impl<Custody: Custodian, HouseMethod: MarginMethod, CustomerMethod: MarginMethod
             pocket,
             asset,
         };
-        let value = self.check_seizure(Seizure {
+        let seizure = Seizure {
             side,
             from,
             units,
             paid,
-        })?;
+        };
+        let value = self.check_seizure(seizure)?;
         take_out(&mut self.custody, from.number(), units)?;
-        self.records.table.pay(paid, side, pocket, value);
+        self.records.table.pay(seizure, value);
         Ok(())
     }
 

@@ -10,7 +10,7 @@ use crate::table::AccountTable;
 use margin::counts::BoundedCounts;
 use rules::pocket::Pocket;
 use rules::row::{AccountRow, Declared, Lots};
-use rules::seizure::Side;
+use rules::seizure::{Seizure, Side};
 
 /// Writes the row whole: other counts of one contract, all else the same.
 fn position_row(row: &mut AccountRow, contract: u8, new: Lots)
@@ -37,12 +37,12 @@ fn declare_row(row: &mut AccountRow, new: Declared)
 
 /// Writes the row whole: what a seizure pays is taken off its debts, and off the customer margin where it came out of
 /// the account's own replacement pocket; the same counts.
-fn pay_row(row: &mut AccountRow, side: u8, pocket: u8, value: u64)
-    ensures { row.new ≡ paid_row side pocket value row.old }
+fn pay_row(row: &mut AccountRow, seizure: Seizure, value: u64)
+    ensures { row.new ≡ paid_row seizure.side seizure.from.pocket value row.old }
 {
-    let itself = side == Side::Itself as u8;
+    let itself = seizure.side == Side::Itself as u8;
     let for_itself = if itself { value } else { 0 };
-    let replaced = if itself && pocket == Pocket::Replacement as u8 {
+    let replaced = if itself && seizure.from.pocket == Pocket::Replacement as u8 {
         value
     } else {
         0
@@ -115,11 +115,11 @@ impl AccountTable {
         self.write(account, |row| declare_row(row, new));
     }
 
-    /// Takes a seized value off the debts of one account, by lending out its row; all other rows stay as they are.
-    pub(crate) fn pay(&mut self, account: u16, side: u8, pocket: u8, value: u64)
-        requires { account < accounts }
-        ensures { rows_of self.new ≡ put (rows_of self.old) account (paid_row side pocket value (rows_of self.old account)) }
+    /// Takes a seized value off the debts of the paid account, by lending out its row; all other rows stay as they are.
+    pub(crate) fn pay(&mut self, seizure: Seizure, value: u64)
+        requires { seizure.paid < accounts }
+        ensures { rows_of self.new ≡ put (rows_of self.old) seizure.paid (paid_row seizure.side seizure.from.pocket value (rows_of self.old seizure.paid)) }
     {
-        self.write(account, |row| pay_row(row, side, pocket, value));
+        self.write(seizure.paid, |row| pay_row(row, seizure, value));
     }
 }

@@ -61,6 +61,7 @@ pub(crate) fn customer_shares<L: Ledger>(ledger: &L, account: u16) -> Shares
     )
 }
 
+// The two halves of one split, apart because each caller wants one of them.
 /// What of a replacement pocket stands in for the customer margin.
 pub(crate) fn replaced_value<L: Ledger>(ledger: &L, account: u16) -> u64
     ensures { result ≡ lesser (replacement (L.Ledger.state ledger.now) account) ((L.Ledger.state ledger.now).rows account).declared.customer_margin }

@@ -12,6 +12,7 @@ use rules::refusal::Refusal;
 fn check(file: OrderFile, places: usize) -> Result<Accepted, FileFault>
     ensures { result ≡ answered (with_places places (orders_in file.entry)) }
 {
+    // Not by `try_fold`, whose closure the check did not prove callable: a `for` with `?` tells the first fault.
     let mut orders = 0;
     for order in file.orders() {
         order?;

@@ -27,8 +27,8 @@ customerless side pocket value row h = (
 )
 
 pub write-requires-clause-allowed : goal.write-requires-clause-allowed
-write-requires-clause-allowed c = λ old new h e. let row : new ≡ paid_row c.args.side c.args.pocket c.args.value old = search rules in
-    subst (RowAllowed c.args.account) (sym row) (record { counts = h.counts; amounts = affordable c.args.side c.args.pocket c.args.value old h.amounts; house_row = λ k. customerless c.args.side c.args.pocket c.args.value old (h.house_row k) })
+write-requires-clause-allowed c = λ old new h e. let row : new ≡ paid_row c.args.seizure.side c.args.seizure.from.pocket c.args.value old = search rules in
+    subst (RowAllowed c.args.seizure.paid) (sym row) (record { counts = h.counts; amounts = affordable c.args.seizure.side c.args.seizure.from.pocket c.args.value old h.amounts; house_row = λ k. customerless c.args.seizure.side c.args.seizure.from.pocket c.args.value old (h.house_row k) })
 
 pub returns : goal.returns
-returns c = c.write.ensures (paid_row c.args.side c.args.pocket c.args.value) (λ old new e. search rules)
+returns c = c.write.ensures (paid_row c.args.seizure.side c.args.seizure.from.pocket c.args.value) (λ old new e. search rules)
