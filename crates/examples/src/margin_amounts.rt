@@ -73,6 +73,9 @@ mod tests {
 
     #[test]
     fn counts_beyond_their_limit(rt: HostRuntime) {
-        assert_eq!(rt; first_contract(0, 1_000_001).err(), Some(Refusal::OutOfRange));
+        assert_eq!(rt;
+            first_contract(0, 1_000_001).err(),
+            Some(Refusal::OutOfRange)
+        );
     }
 }
