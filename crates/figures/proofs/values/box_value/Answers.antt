@@ -1,4 +1,4 @@
-use Rattle.std.proofs.Common.{◌≡◌, ℕ, ◌≤◌, Ok, Result, ap, ◌∙◌, ap₂}
+use Rattle.std.proofs.Common.{◌≡◌, ℕ, ◌≤◌, Ok, Result, ap, ◌∙◌}
 use Rattle.std.specs.Result.{result_unwrap_or}
 use Rattle.rules.specs.declared.refusal.Refusal.{Refusal}
 use Rattle.rules.specs.Sizes.{most_price, most_units}
@@ -6,8 +6,8 @@ use Rattle.rules.specs.Values.{market}
 use Rattle.figures.proofs.Worths.{worth_most, worth_answered}
 use Rattle.figures.proofs.values.box_value.Goals as goal
 
-pub returns : goal.returns
-returns g c =
+pub returns-clause-small : goal.returns-clause-small
+returns-clause-small g c =
     let ledger = c.args.ledger.now in
     let laws = g.L.Ledger.laws in
     let asset = c.args.place.asset in
@@ -17,8 +17,4 @@ returns g c =
     let u : units ≤ most_units = rw c.units-units.ensures (laws.units ledger c.number.result) in
     let one : asset ≡ 0 → price ≡ 1 = λ e. c.price.ensures ∙ ap (g.L.Ledger.state ledger).price e ∙ laws.yen ledger in
     let answer : c.market_value.result ≡ Ok (market asset price units) = c.market_value.ensures ∙ worth_answered asset price units c.requires p u in
-    let value : c.unwrap_or.result ≡ market asset price units = c.unwrap_or.ensures ∙ ap (λ (r : Result ℕ Refusal). result_unwrap_or r 0) answer in
-    record {
-      value = value ∙ ap₂ (market asset) c.price.ensures (c.units-units.ensures ∙ ap (g.L.Ledger.state ledger).held c.number.ensures);
-      small = rw value (worth_most asset price units c.requires one p u);
-    }
+    rw (c.unwrap_or.ensures ∙ ap (λ (r : Result ℕ Refusal). result_unwrap_or r 0) answer) (worth_most asset price units c.requires one p u)

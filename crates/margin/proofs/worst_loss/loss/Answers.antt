@@ -6,15 +6,6 @@ use Rattle.margin.specs.Losses.{sumℤ, gain_at}
 use Rattle.margin.proofs.Signs.{abs_above_0, sumℤ_more}
 use Rattle.margin.proofs.worst_loss.loss.Goals as goal
 
-pub gain-sum-requires : goal.gain-sum-requires
-gain-sum-requires c =
-    let few = c.args.counts.now.countable c.loop-contract.contract c.loop-contract-test.true in
-    let m : SFits w32 (get_or c.args.moves.now c.loop-contract.contract (pos 0)) = search rules in
-    record { long = few.0; short = few.1; near = rw (to_z-of_z m) (c.requires c.loop-contract.contract) }
-
-pub overflow_add-sum : goal.overflow_add-sum
-overflow_add-sum c = omega (arith, ints)
-
 pub loop-contract-preserved : goal.loop-contract-preserved
 loop-contract-preserved c =
     let f : ℕ → ℤ = gain_at c.args.moves.now c.args.counts.now.counts in
@@ -23,9 +14,6 @@ loop-contract-preserved c =
     let s = sumℤ_more c.loop-contract.contract f in
     let i = c.loop-contract.invariant.1 in
     (omega (arith, ints), omega (arith, ints))
-
-pub overflow_sub-sum : goal.overflow_sub-sum
-overflow_sub-sum c = omega (arith, ints)
 
 pub returns : goal.returns
 returns c =

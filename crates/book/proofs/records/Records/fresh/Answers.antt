@@ -4,11 +4,8 @@ use Rattle.rules.specs.declared.standing.Standing.TheVariants.{Active}
 use Rattle.rules.specs.Sizes.{accounts, participants}
 use Rattle.rules.specs.States.{made}
 use Rattle.rules.proofs.Same.{get_or_same}
-use Rattle.book.proofs.Fresh.{fresh_price, fresh_haircut, fresh_priced, fresh_cut, fresh_is}
+use Rattle.book.proofs.Fresh.{fresh_price, fresh_haircut, fresh_is}
 use Rattle.book.proofs.records.Records.fresh.Goals as goal
-
-pub invariant_of-result : goal.invariant_of-result
-invariant_of-result c = record { priced = fresh_priced; cut = fresh_cut }
 
 pub returns : goal.returns
 unfolding made
