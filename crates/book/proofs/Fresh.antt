@@ -1,15 +1,14 @@
 -- A book straight from its making.
-use Rattle.std.proofs.Common.{◌≡◌, ℕ, zero, suc, cond, eqb, [], ◌∷◌, replicate, Option, List, refl, ◌≤◌, arith}
-use Rattle.std.proofs.lemmas.Bool.{cond_both}
+use Rattle.std.proofs.Common.{◌≡◌, ℕ, zero, suc, cond, eqb, [], ◌∷◌, replicate, Option, List, refl, arith}
 use Rattle.std.proofs.lemmas.Bool.Decides.{nat_tests}
 use Rattle.rules.specs.declared.row.AccountRow.{AccountRow}
 use Rattle.rules.specs.declared.standing.Standing.{Standing}
-use Rattle.rules.specs.Sizes.{accounts, most_price, most_haircut}
+use Rattle.rules.specs.Sizes.{accounts, most_haircut}
 use Rattle.rules.specs.States.{State, Countable, flat, empty_row, made}
 use Rattle.rules.specs.Orders.{with_held}
 use Rattle.rules.proofs.Same.{get_or_same, none_flat}
 use Rattle.book.specs.declared.mark.Mark.{Mark}
-use Rattle.book.specs.Tables.{AllAllowed, yen_mark, unmarked, mark_of, Priced, Cut}
+use Rattle.book.specs.Tables.{AllAllowed, yen_mark, unmarked, mark_of}
 
 countable : Countable flat
 countable k h = rw (none_flat k) (omega arith, omega arith)
@@ -34,12 +33,6 @@ fresh_haircut (suc zero) = refl
 fresh_haircut (suc (suc zero)) = refl
 fresh_haircut (suc (suc (suc zero))) = refl
 fresh_haircut (suc (suc (suc (suc n)))) = grind (arith, nat_tests)
-
-pub fresh_priced : Priced fresh_marks
-fresh_priced = (refl, λ asset. rw (fresh_price asset) (cond_both (eqb asset 0) 1 0 (λ n. n ≤ most_price) (λ e. omega arith) (λ e. omega arith)))
-
-pub fresh_cut : Cut fresh_marks
-fresh_cut asset = rw (fresh_haircut asset) (cond_both (eqb asset 0) 0 most_haircut (λ n. n ≤ most_haircut) (λ e. omega arith) (λ e. omega arith))
 
 -- part by part
 pub fresh_is : (rows : ℕ → AccountRow) (opened : ℕ → Option ℕ) (standing : ℕ → Standing) (price haircut held : ℕ → ℕ) →

@@ -1,4 +1,3 @@
-pub mod Limits
 pub mod Clamping
 pub mod Signs
 pub mod Compared

@@ -7,7 +7,7 @@ use Rattle.rules.specs.declared.refusal.Refusal.TheVariants.{UnknownKind, BodyCu
 use Rattle.rules.specs.Orders.{Order}
 use Rattle.orders.specs.Kinds.{Kind, size, kinds, found, order_in}
 use Rattle.orders.specs.Reading.{Reading, most_bytes, fault, order_at, prepended, onward, orders_from, reading}
-use Rattle.orders.specs.Walks.{first_order, counted}
+use Rattle.orders.specs.Walks.{first_order}
 
 -- A TEST OF TWO NUMBERS comes before what else is read.
 module _ {A E : Type 0} (m n : ℕ) (e : E) where
@@ -100,8 +100,3 @@ short_reads bytes h = cond-false _ _ _ (le-ltb _ _ h)
 
 pub accepted_short : (bytes : List ℕ) (orders : List Order) → reading bytes ≡ Ok orders → (length bytes ≤ most_bytes) × (orders_from 0 0 bytes ≡ Ok orders)
 accepted_short bytes orders e = passed _ _ _ _ _ e
-
--- COUNTS. n orders were read before.
-pub count_more : (n : ℕ) (order : Order) (r : Reading) → counted n (prepended order r) ≡ counted (n + 1) r
-count_more n order (Ok orders) = ap Ok (omega arith)
-count_more n order (Err f) = refl
