@@ -6,6 +6,8 @@ ghost use Rattle.rules.specs.Orders.{step, opening, mark, position, declare, dep
 
 use rules::refusal::Refusal;
 
+// Accounts, pockets, assets and sides come as plain numbers, each by itself: an order may name any, and one of which there
+// is nothing is refused.
 /// The orders and questions of a margin book. Each order answers the first refusal that holds, in the order in which
 /// the rules try them, and then changes nothing; else it does what the rules say and nothing besides. That, with the
 /// holdings of all boxes, is the one equation `step` of its contract.

@@ -87,6 +87,8 @@ impl AccountTable {
         }
     }
 
+    // That the account is in the table is asked for here and by the three functions below: it was seen by the refusals that
+    // came before, and a type for such numbers would have to be made anew, past them, where a seizure pays.
     /// Lends the row of an account to a row function; all other rows stay as they are.
     fn write<F: FnOnce(&mut AccountRow)>(&mut self, account: u16, function: F)
         requires account { account < accounts }

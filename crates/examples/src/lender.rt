@@ -13,6 +13,7 @@ pub fn clear_lent<Cell: MemoryCell>(memory: &mut [Cell])
     LentCustodian::new(memory).clear();
 }
 
+// Memory, box and units are what the lender has at hand; a struct of them would be made for these two calls alone.
 /// The same after a put: of numbers `put_cells`, of bytes `put_page`.
 pub fn put_lent<Cell: MemoryCell>(
     memory: &mut [Cell],

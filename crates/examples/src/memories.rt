@@ -8,6 +8,7 @@ mod tests {
     // The most units of a box.
     const MOST: u64 = 100_000_000_000;
 
+    // The runtime and the custodian are passed on as they are: a struct of both would be taken apart in each function.
     // The first box that is not served has no room, and nothing can be put there but nothing.
     fn no_box<C: Custodian>(rt: &impl Abort, custody: &mut C, box_number: usize) {
         assert_eq!(rt; custody.limit(box_number), 0);
@@ -47,6 +48,7 @@ mod tests {
         assert_eq!(rt; custody.held(box_number), 7);
     }
 
+    // Registers and pages have the same edges at other lengths, so the calls are written out for each.
     #[test]
     fn registers_short_and_long(rt: HostRuntime) {
         no_box(&rt, &mut NumberRegister::new(&mut []), 0);

@@ -30,6 +30,7 @@ impl<Custody: Custodian> Custodian for Counting<'_, Custody> {
         self.custody.limit(box_number)
     }
 
+    // Put and take count apart, as the two calls of the trait are apart.
     fn put(&mut self, box_number: usize, units: u64) -> Result<(), PutRefusal> {
         *self.puts = self.puts.wrapping_add(1);
         self.custody.put(box_number, units)

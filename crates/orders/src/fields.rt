@@ -10,6 +10,7 @@ pub(crate) trait Field: Sized {
     /// The number that a value is.
     ghost number: { Self → ℕ };
 
+    // A body and a place, and no struct of the two: each kind of order holds its body as a plain part of the file.
     /// The number in the field at a place of a body.
     fn at(body: &[u8], from: usize) -> Self
         requires { from + width ≤ length body.now }

@@ -82,6 +82,7 @@ impl<'a> FileOrder<'a> {
     }
 }
 
+// A number and not the outcome itself, since an answer list is bytes that the caller lends.
 /// The number by which an outcome is told in an answer list: 0 for accepted.
 fn number(outcome: Result<(), Refusal>) -> u8
     ensures { result ≡ outcome_number outcome }

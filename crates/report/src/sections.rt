@@ -7,6 +7,7 @@ use book::orders::MarginBook;
 use rules::sizes::{ACCOUNTS, PARTICIPANTS};
 use std::fmt;
 
+// The answers are numbers, since they are read off the list that a run fills.
 /// A line for the answer to each order. The orders are numbered from 1.
 #[derive(Clone, Copy)]
 pub(crate) struct OrderLines<'a> {
@@ -24,6 +25,7 @@ impl fmt::Display for OrderLines<'_> {
     }
 }
 
+// Three lists of lines and no list over any question: each asks other questions and writes other words.
 /// A line for each open customer account of a book, in rising number.
 #[derive(Drop)]
 pub(crate) struct AccountLines<'a, B> {
