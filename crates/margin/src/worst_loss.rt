@@ -54,10 +54,9 @@ fn loss(moves: &[i32; CONTRACTS], counts: &BoundedCounts) -> u64
     requires { (k : ℕ) → unsigned_abs (slice_index_or moves.now k (pos 0)) ≤ 10000000 }
     ensures { result ≡ above_0 (loss_of moves.now counts.now.counts) }
 {
-    // Numbered and not zipped with the moves: the invariant then speaks of the contracts so far, as for the other methods.
     let mut sum = 0;
-    for (contract, lots) in counts.counts.each.iter().enumerate() {
-        sum += gain(*lots, moves[contract]);
+    for (lots, shift) in counts.counts.each.iter().zip(moves) {
+        sum += gain(*lots, *shift);
     }
     (-sum).max(0).unsigned_abs()
 }
