@@ -1,5 +1,5 @@
 -- What an array holds after one of its elements is written.
-use Rattle.std.proofs.Common.{◌≡◌, ℕ, zero, suc, ◌<◌, List, [], ◌∷◌, length, get_or, set, refl, ap, ◌∙◌, ⊎_elim}
+use Rattle.std.proofs.Common.{◌≡◌, ℕ, zero, suc, ◌<◌, List, [], ◌∷◌, length, get_or, set, refl, ap, ◌∙◌, sym, subst, ⊎_elim}
 use mathlib.Core.Path.{fun_ext}
 use Rattle.std.proofs.lemmas.List.{get_or-set_same, get_or-set_other, get_or_default}
 use Rattle.std.proofs.lemmas.Bool.{cases_eq, eq-eqb, ne_eqb}
@@ -26,6 +26,8 @@ at_set xs i v d h k =
 pub put_set : {X : Type 0} (xs : List X) (i : ℕ) (v w d : X) → i < length xs → v ≡ w → (λ k. get_or (set xs i v) k d) ≡ put (λ j. get_or xs j d) i w
 put_set xs i v w d h e = fun_ext (at_set xs i v d h) ∙ ap (λ u. put (λ j. get_or xs j d) i u) e
 
--- a row that is written back, with the default of the table's meaning in place of the code's
-pub written : (rows : List AccountRow) (i : ℕ) (f : AccountRow → AccountRow) (d row : AccountRow) → i < length rows → row ≡ f (get_or rows i d) → row ≡ f (get_or rows i empty_row)
-written rows i f d row l e = e ∙ ap f (get_or_default rows i d empty_row l)
+-- what is known of the row that was there and of the one that was written, with the default of the table's meaning in
+-- place of the code's
+pub moved : (P : (old new : AccountRow) → Type 0) (rows : List AccountRow) (i : ℕ) (d new : AccountRow) → i < length rows → P (get_or rows i d) new → P (get_or rows i empty_row) (get_or (set rows i new) i empty_row)
+moved P rows i d new l p =
+    subst (P (get_or rows i empty_row)) (sym (get_or-set_same rows i new empty_row l)) (subst (λ (old : AccountRow). P old new) (get_or_default rows i d empty_row l) p)

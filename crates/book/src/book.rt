@@ -7,9 +7,7 @@ ghost use Rattle.book.specs.States.{state_of, terms_of};
 ghost use Rattle.book.specs.BookLaws.{lawful};
 ghost use Rattle.book.specs.Promise.{Promise};
 
-use crate::limits::{
-    amounts_out_of_range, check_units, counts_barred, counts_out_of_range, no_such_pocket,
-};
+use crate::limits::{amounts_out_of_range, counts_barred, counts_out_of_range};
 use crate::mark::Mark;
 use crate::moves::take_out;
 use crate::orders::MarginBook;

@@ -19,7 +19,6 @@ use rules::accounts::is_house;
 use rules::boxes::DepositBox;
 use rules::refusal::Refusal;
 use rules::seizure::Seizure;
-use rules::sizes::ASSETS;
 use rules::standing::Standing;
 
 impl<Custody: Custodian, HouseMethod: MarginMethod, CustomerMethod: MarginMethod> Book<
@@ -30,7 +29,7 @@ impl<Custody: Custodian, HouseMethod: MarginMethod, CustomerMethod: MarginMethod
     /// What an account has to be covered by, by the method for its kind.
     #[tactic(auto, unfolding(rules::specs::Figures::maintenance_amount))]
     fn maintenance_amount(&self, account: u16) -> u64
-        ensures { result ≡ maintenance_amount (terms_of (Custody.Custodian.boxes self.now.custody) (HouseMethod.MarginMethod.amount self.now.house) (CustomerMethod.MarginMethod.amount self.now.customers)) (state_of self.now.records (Custody.Custodian.boxes self.now.custody)) account }
+        ensures { let boxes = Custody.Custodian.boxes self.now.custody in let s = state_of self.now.records boxes in let T = terms_of boxes (HouseMethod.MarginMethod.amount self.now.house) (CustomerMethod.MarginMethod.amount self.now.customers) in result ≡ maintenance_amount T s account }
     {
         let counts = self.records.table.counts(account);
         if is_house(account) {
@@ -43,7 +42,7 @@ impl<Custody: Custodian, HouseMethod: MarginMethod, CustomerMethod: MarginMethod
     /// Tries the refusals that a deposit and a withdrawal begin with, in their order: of the account, its pocket, the asset
     /// and the units.
     pub(crate) fn check_box(&self, place: DepositBox, units: u64) -> Result<(), Refusal>
-        ensures { result ≡ answered ((WrongAccount, not (known (state_of self.now.records (Custody.Custodian.boxes self.now.custody)) place.account)) ∷ ((WrongPocket, no_such_pocket place.account place.pocket) ∷ ((WrongAsset, not (nat_lt place.asset assets)) ∷ ((OutOfRange, units_out_of_range units) ∷ [])))) tt }
+        ensures { let boxes = Custody.Custodian.boxes self.now.custody in let s = state_of self.now.records boxes in result ≡ answered ((WrongAccount, not (known s place.account)) ∷ ((WrongPocket, no_such_pocket place.account place.pocket) ∷ ((WrongAsset, not (nat_lt place.asset assets)) ∷ ((OutOfRange, units_out_of_range units) ∷ [])))) tt }
     {
         if !self.knows(place.account) {
             return Err(Refusal::WrongAccount);
@@ -56,7 +55,7 @@ impl<Custody: Custodian, HouseMethod: MarginMethod, CustomerMethod: MarginMethod
 
     /// Tries the refusals of a withdrawal in their order. Nothing is taken before all have been tried.
     pub(crate) fn check_withdrawal(&self, place: DepositBox, units: u64) -> Result<(), Refusal>
-        ensures { result ≡ answered (tests (terms_of (Custody.Custodian.boxes self.now.custody) (HouseMethod.MarginMethod.amount self.now.house) (CustomerMethod.MarginMethod.amount self.now.customers)) (state_of self.now.records (Custody.Custodian.boxes self.now.custody)) (withdraw place.account place.pocket place.asset units)) tt }
+        ensures { let boxes = Custody.Custodian.boxes self.now.custody in let s = state_of self.now.records boxes in let T = terms_of boxes (HouseMethod.MarginMethod.amount self.now.house) (CustomerMethod.MarginMethod.amount self.now.customers) in result ≡ answered (tests T s (withdraw place.account place.pocket place.asset units)) tt }
     {
         self.check_box(place, units)?;
         let account = place.account;
@@ -78,7 +77,7 @@ impl<Custody: Custodian, HouseMethod: MarginMethod, CustomerMethod: MarginMethod
     /// Tries the refusals of a seizure in their order, and answers the market value that it would take out of the box.
     /// Nothing is taken before all have been tried.
     pub(crate) fn check_seizure(&self, seizure: Seizure) -> Result<u64, Refusal>
-        ensures { result ≡ answered (tests (terms_of (Custody.Custodian.boxes self.now.custody) (HouseMethod.MarginMethod.amount self.now.house) (CustomerMethod.MarginMethod.amount self.now.customers)) (state_of self.now.records (Custody.Custodian.boxes self.now.custody)) (seize seizure.side seizure.from.account seizure.from.pocket seizure.from.asset seizure.paid seizure.units)) (leaving (state_of self.now.records (Custody.Custodian.boxes self.now.custody)) (taken (state_of self.now.records (Custody.Custodian.boxes self.now.custody)) seizure.from.account seizure.from.pocket seizure.from.asset seizure.units) seizure.from.account seizure.from.pocket seizure.from.asset) }
+        ensures { let boxes = Custody.Custodian.boxes self.now.custody in let s = state_of self.now.records boxes in let T = terms_of boxes (HouseMethod.MarginMethod.amount self.now.house) (CustomerMethod.MarginMethod.amount self.now.customers) in result ≡ answered (tests T s (seize seizure.side seizure.from.account seizure.from.pocket seizure.from.asset seizure.paid seizure.units)) (leaving s (taken s seizure.from.account seizure.from.pocket seizure.from.asset seizure.units) seizure.from.account seizure.from.pocket seizure.from.asset) }
     {
         let Seizure {
             from,

@@ -18,6 +18,7 @@ pub trait MarginBook {
     /// The state that the book is in.
     ghost state: { Self → State };
 
+    // Each order says of itself that it leaves the terms: no law of a value can speak of before and after a call.
     /// The custodian and the two methods keep their laws.
     ghost laws: { (book : Self) → Lawful (terms book) };
 

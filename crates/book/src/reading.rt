@@ -1,4 +1,3 @@
-ghost use Rattle.std.specs.Prelude.{◌≡◌};
 ghost use Rattle.book.specs.States.{state_of};
 ghost use Rattle.book.specs.BookLaws.{bounded};
 

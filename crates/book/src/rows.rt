@@ -59,6 +59,7 @@ fn pay_row(row: &mut AccountRow, seizure: Seizure, value: u64)
     };
 }
 
+// A function of its own, so that what the call did is known of the row itself, and not of a loan of a part of the table.
 /// Lends a row to a row function.
 fn lend<F: FnOnce(&mut AccountRow)>(row: &mut AccountRow, function: F)
     requires { F.IsAlwaysCallable function }
@@ -87,14 +88,15 @@ impl AccountTable {
         }
     }
 
-    // That the account is in the table is asked for here and by the three functions below: it was seen by the refusals that
-    // came before, and a type for such numbers would have to be made anew, past them, where a seizure pays.
+    // Each caller has shown the account to be in the table; a type for that would have to be built again where a seizure
+    // pays.
     /// Lends the row of an account to a row function; all other rows stay as they are.
     fn write<F: FnOnce(&mut AccountRow)>(&mut self, account: u16, function: F)
         requires account { account < accounts }
         requires callable { F.IsAlwaysCallable function }
         requires allowed { (old new : Row) → RowAllowed account old → FnOnceReturnsAtMut F.FnOnce function old tt new → RowAllowed account new }
-        ensures { (f : Row → Row) → ((old new : Row) → FnOnceReturnsAtMut F.FnOnce function old tt new → new ≡ f old) → rows_of self.new ≡ put (rows_of self.old) account (f (rows_of self.old account)) }
+        ensures called { FnOnceReturnsAtMut F.FnOnce function (rows_of self.old account) tt (rows_of self.new account) }
+        ensures others { rows_of self.new ≡ put (rows_of self.old) account (rows_of self.new account) }
     {
         lend(&mut self.rows[account as usize], function);
     }

@@ -17,7 +17,7 @@ impl MemoryCell for u8 {
     }
 
     fn load(memory: &[u8], box_number: usize) -> Option<u64> {
-        let (words, _) = memory.as_chunks();
+        let (words, _) = memory.as_chunks::<8>();
         let word = words.get(box_number)?;
         Some(u64::from_be_bytes(*word))
     }

@@ -12,6 +12,7 @@ mod tests {
     const TOO_MUCH: u64 = 1_000_000_000_000_001;
 
     // The runtime and the book are passed on as they are: a struct of both would be taken apart in each function.
+
     // The figures of the case that bad input must leave as they are.
     fn as_before<B: MarginBook>(rt: &impl Abort, book: &B) {
         assert_eq!(rt; book.customer(8), Ok((50, 100)));

@@ -9,6 +9,7 @@ mod tests {
     const MOST: u64 = 100_000_000_000;
 
     // The runtime and the custodian are passed on as they are: a struct of both would be taken apart in each function.
+
     // The first box that is not served has no room, and nothing can be put there but nothing.
     fn no_box<C: Custodian>(rt: &impl Abort, custody: &mut C, box_number: usize) {
         assert_eq!(rt; custody.limit(box_number), 0);

@@ -9,6 +9,8 @@ mod tests {
 
     const MOST: u32 = 1_000_000;
 
+    // The runtime and the book are passed on as they are: a struct of both would be taken apart in each function.
+
     // A default from beginning to end.
     fn default_run<B: MarginBook>(rt: &impl Abort, book: &mut B) {
         assert_eq!(rt; book.open(8, 0), Ok(()));

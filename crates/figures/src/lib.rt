@@ -8,7 +8,6 @@ pub mod coverage;
 pub mod ledger;
 pub mod lots;
 pub mod owners;
-mod participants;
 mod parts;
 mod pool;
 pub mod seizures;

@@ -2,7 +2,7 @@ ghost use Rattle.std.specs.Prelude.{◌≡◌};
 ghost use Rattle.rules.specs.Orders.{row_lots as row_lots_of, open_lots as open_lots_of};
 
 use crate::ledger::Ledger;
-use crate::participants::over;
+use crate::owners::is_under;
 use rules::row::Counts;
 use rules::sizes::ACCOUNTS;
 
@@ -21,9 +21,11 @@ fn row_lots(counts: &Counts) -> u64
 pub fn open_lots<L: Ledger>(ledger: &L, participant: u8) -> u64
     ensures { result ≡ open_lots_of (L.Ledger.state ledger.now) participant }
 {
-    over(
-        ledger,
-        participant,
-        |account| row_lots(&ledger.row(account).counts),
-    )
+    let mut sum = 0;
+    for account in 0..ACCOUNTS {
+        if is_under(ledger, account, participant) {
+            sum += row_lots(&ledger.row(account).counts);
+        }
+    }
+    sum
 }

@@ -35,7 +35,7 @@ impl Parts {
         }
     }
 
-    /// Each with what there is more of it.
+    /// The two added up.
     fn with(self, more: Parts) -> Parts
         requires pool { self.pool + more.pool < 2 ^ 64 }
         requires charge { self.charge + more.charge < 2 ^ 64 }
@@ -74,6 +74,7 @@ pub(crate) fn account_parts<L: Ledger>(ledger: &L, account: u16) -> Parts
     }
 }
 
+// Four sums in one go over the accounts, so its loop stands beside that of the open lots, which is over numbers.
 /// The sums of a participant over all its accounts.
 pub(crate) fn total_parts<L: Ledger>(ledger: &L, participant: u8) -> Parts
     ensures { result ≡ total_parts (L.Ledger.state ledger.now) participant }

@@ -1,5 +1,4 @@
-ghost use Rattle.std.specs.Prelude.{◌≡◌, ℕ, ◌≤◌};
-ghost use Rattle.rules.specs.Sizes.{most_amount};
+ghost use Rattle.std.specs.Prelude.{◌≡◌, ◌≤◌};
 ghost use Rattle.rules.specs.Claims.{lesser};
 ghost use Rattle.rules.specs.Figures.{replacement, excess, own_pool as own_pool_of};
 ghost use Rattle.figures.specs.Bounds.{most_pocket};

@@ -6,7 +6,6 @@ use crate::after::After;
 use crate::ledger::Ledger;
 use crate::owners::participant_over;
 use crate::parts::total_parts;
-use crate::pool::pool_value;
 use crate::shares::own_pool;
 use crate::values::pocket_value;
 use rules::accounts::is_house;
@@ -49,15 +48,14 @@ pub fn is_withdrawal_barred<L: Ledger>(ledger: &L, place: DepositBox, units: u64
         );
     }
     if pocket == Pocket::Replacement as u8 {
-        let (left, held) = (
-            pocket_value(&after, account, Pocket::Replacement),
-            pocket_value(ledger, account, Pocket::Replacement),
-        );
+        let left = pocket_value(&after, account, Pocket::Replacement);
+        let held = pocket_value(ledger, account, Pocket::Replacement);
         if uncovers(left, held, row.declared.customer_margin) {
             return true;
         }
     }
     let participant = participant_over(ledger, account);
     let sums = total_parts(ledger, participant);
-    uncovers(pool_value(&after, participant), sums.pool, sums.charge)
+    let sums_after = total_parts(&after, participant);
+    uncovers(sums_after.pool, sums.pool, sums.charge)
 }

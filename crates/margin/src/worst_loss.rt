@@ -1,4 +1,4 @@
-ghost use Rattle.std.specs.Prelude.{◌≡◌, ℕ, ◌<◌, ◌≤◌, map, pos, ◌-ℤ◌, ◌*ℤ◌, slice_index_or, unsigned_abs};
+ghost use Rattle.std.specs.Prelude.{◌≡◌, ℕ, ◌≤◌, map, pos, ◌-ℤ◌, ◌*ℤ◌, slice_index_or, unsigned_abs};
 ghost use Rattle.rules.specs.Sizes.{most_count};
 ghost use Rattle.margin.specs.Losses.{nearest, loss as loss_of, above_0, worst_loss};
 ghost use Rattle.margin.specs.LossLaws.{most_gain, worst_lawful};

@@ -65,6 +65,7 @@ fn bytes_at<const N: usize>(body: &[u8], from: usize) -> [u8; N]
     *body[from..].first_chunk().unwrap()
 }
 
+// Not a `Field` of its own: an account is one byte in a file and a wider number in a call.
 /// The account that the field of one byte at a place of a body names.
 pub(crate) fn account_at(body: &[u8], from: usize) -> u16
     requires { from + 1 ≤ length body.now }

@@ -1,4 +1,4 @@
-ghost use Rattle.std.specs.Prelude.{◌≡◌, ℕ, true, length, is_ok};
+ghost use Rattle.std.specs.Prelude.{◌≡◌, true, length, is_ok};
 ghost use Rattle.orders.specs.Runs.{with_places, admitted, answered, state_after, list_after};
 ghost use Rattle.orders.specs.Walks.{orders_in};
 

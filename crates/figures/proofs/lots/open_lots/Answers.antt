@@ -1,11 +1,34 @@
-use Rattle.std.proofs.Common.{rules}
+use Rattle.std.proofs.Common.{◌≤◌, sym, ◌∙◌, ap, arith, rules}
+use Rattle.rules.specs.declared.row.AccountRow.{AccountRow}
+use Rattle.rules.specs.Figures.{over}
 use Rattle.rules.specs.Orders.{row_lots, open_lots}
+use Rattle.rules.proofs.Sums.{sum_none}
+use Rattle.figures.specs.Bounds.{most_lots}
 use Rattle.figures.proofs.Bounded.{row_lots_most}
+use Rattle.figures.proofs.Turns.{added, passed}
 use Rattle.figures.proofs.lots.open_lots.Goals as goal
+use Rattle.figures.proofs.lots.open_lots.Goals.{then-is_under, else-is_under}
 
-pub over-requires-clause-few : goal.over-requires-clause-few
-over-requires-clause-few g c = λ account value l e. let most = row_lots_most g.L.Ledger.state g.L.Ledger.laws c.args.ledger.now account in search (rules, most)
+pub loop-account-init : goal.loop-account-init
+loop-account-init g c = search (rules, sum_none)
+
+pub overflow_add-sum : goal.overflow_add-sum
+overflow_add-sum g c =
+    let few : c.row_lots-sum.result ≤ most_lots =
+    rw (c.row_lots-sum.ensures ∙ ap (λ (r : AccountRow). row_lots r.counts) c.row.ensures) (row_lots_most g.L.Ledger.state g.L.Ledger.laws c.args.ledger.now c.loop-account.account) in
+    omega (arith, few)
+
+pub loop-account-preserved : goal.loop-account-preserved
+loop-account-preserved g c =
+    let s = g.L.Ledger.state c.args.ledger.now in
+    elim c.if-is_under.branch [
+      | then-is_under w ↦
+          let lots = w.row_lots-sum.ensures ∙ ap (λ (r : AccountRow). row_lots r.counts) w.row.ensures in
+          let few : w.row_lots-sum.result ≤ most_lots = rw lots (row_lots_most g.L.Ledger.state g.L.Ledger.laws c.args.ledger.now c.loop-account.account) in
+          rw w.sum-is (added _ (λ a. row_lots (s.rows a).counts) _ _ c.loop-account.invariant.0 _ (sym c.is_under.ensures ∙ w.if-is_under.true) lots, omega (arith, few))
+      | else-is_under w ↦ rw w.sum-is (passed _ (λ a. row_lots (s.rows a).counts) _ _ c.loop-account.invariant.0 (sym c.is_under.ensures ∙ w.if-is_under.false), omega arith)
+    ]
 
 pub returns : goal.returns
-unfolding open_lots
-returns g c = c.over.ensures (λ account. row_lots ((g.L.Ledger.state c.args.ledger.now).rows account).counts) (λ account value l e. search rules)
+unfolding open_lots over
+returns g c = search rules
