@@ -40,6 +40,7 @@ pub(crate) fn check_units(asset: u8, units: u64) -> Result<(), Refusal>
     Ok(())
 }
 
+// A contract and its lots, here and where they are written: a list of counts has the contract as its place.
 /// Whether there is no such contract, or a count is above its limit.
 pub(crate) fn counts_out_of_range(contract: u8, new: Lots) -> bool
     ensures { result ≡ counts_out_of_range contract new }

@@ -26,6 +26,7 @@ pub fn value_leaving<L: Ledger>(ledger: &L, place: DepositBox, units: u64) -> u6
     box_value(ledger, place).saturating_sub(box_value(&after, place))
 }
 
+// The value stands beside the seizure, as it does where it is paid: it is worked out once, and is no part of the order.
 /// Whether a value may not be seized: there is none, or it passes what the clearing house keeps of the paying account
 /// (side 0), or from the pool for the rest of the paid account's debt (side 1).
 #[tactic(auto, unfolding(rules::specs::Orders::seizure_barred))]
