@@ -39,8 +39,8 @@ impl<Custody: Custodian, HouseMethod: MarginMethod, CustomerMethod: MarginMethod
         }
     }
 
-    /// Tries the refusals that a deposit and a withdrawal begin with, in their order: of the account, its pocket, the asset
-    /// and the units.
+    /// Tries the refusals that a deposit and a withdrawal begin with, in their order: of the account, its pocket, the
+    /// asset and the units.
     pub(crate) fn check_box(&self, place: DepositBox, units: u64) -> Result<(), Refusal>
         ensures { let boxes = Custody.Custodian.boxes self.now.custody in let s = state_of self.now.records boxes in result ≡ answered ((WrongAccount, not (known s place.account)) ∷ ((WrongPocket, no_such_pocket place.account place.pocket) ∷ ((WrongAsset, not (nat_lt place.asset assets)) ∷ ((OutOfRange, units_out_of_range units) ∷ [])))) tt }
     {

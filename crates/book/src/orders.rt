@@ -6,8 +6,8 @@ ghost use Rattle.rules.specs.Orders.{step, opening, mark, position, declare, dep
 
 use rules::refusal::Refusal;
 
-// Accounts, pockets, assets and sides come as plain numbers, each by itself: an order may name any, and one of which there
-// is nothing is refused.
+// Accounts, pockets, assets and sides come as plain numbers, each by itself: an order may name any, and one of which
+// there is nothing is refused.
 /// The orders and questions of a margin book. Each order answers the first refusal that holds, in the order in which
 /// the rules try them, and then changes nothing; else it does what the rules say and nothing besides. That, with the
 /// holdings of all boxes, is the one equation `step` of its contract.
@@ -70,10 +70,11 @@ pub trait MarginBook {
         ensures step { (result, state self.new) ≡ step (terms self.old) (state self.old) (settle participant) }
         ensures same { terms self.new ≡ terms self.old };
 
-    /// Takes units of an asset out of a pocket of the paying account, and the market value that leaves the box off debts
-    /// on the paid one. On side 0 these are one customer account: the value comes off both its debts, and off the
-    /// customer margin too where the units came out of the replacement pocket. On side 1 a house pocket or a replacement
-    /// pocket pays for any account of its participant, and the value comes off the participant's debt there.
+    /// Takes units of an asset out of a pocket of the paying account, and the market value that leaves the box off
+    /// debts on the paid one. On side 0 these are one customer account: the value comes off both its debts, and off the
+    /// customer margin too where the units came out of the replacement pocket. On side 1 a house pocket or a
+    /// replacement pocket pays for any account of its participant, and the value comes off the participant's debt
+    /// there.
     fn seize(
         &mut self,
         side: u8,

@@ -59,7 +59,8 @@ fn pay_row(row: &mut AccountRow, seizure: Seizure, value: u64)
     };
 }
 
-// A function of its own, so that what the call did is known of the row itself, and not of a loan of a part of the table.
+// A function of its own, so that what the call did is known of the row itself, and not of a loan of a part of the
+// table.
 /// Lends a row to a row function.
 fn lend<F: FnOnce(&mut AccountRow)>(row: &mut AccountRow, function: F)
     requires { F.IsAlwaysCallable function }
@@ -88,8 +89,8 @@ impl AccountTable {
         }
     }
 
-    // Each caller has shown the account to be in the table; a type for that would have to be built again where a seizure
-    // pays.
+    // Each caller has shown the account to be in the table; a type for that would have to be built again where a
+    // seizure pays.
     /// Lends the row of an account to a row function; all other rows stay as they are.
     fn write<F: FnOnce(&mut AccountRow)>(&mut self, account: u16, function: F)
         requires account { account < accounts }

@@ -1,5 +1,5 @@
-// Runs the order file on standard input on a fresh book, and prints the answer to each order and what every customer and
-// every participant may claim.
+// Runs the order file on standard input on a fresh book, and prints the answer to each order and what every customer
+// and every participant may claim.
 #![tactic(auto)]
 
 use report::answer::answer;

@@ -5,7 +5,8 @@ ghost use Rattle.custody.specs.Moves.{Cleared, Put, Take};
 
 use rules::refusal::Refusal;
 
-// Not one type with `TakeRefusal`: no put is refused for want of units and no take for want of room, and the types say so.
+// Not one type with `TakeRefusal`: no put is refused for want of units and no take for want of room, and the types say
+// so.
 /// Why a put is refused.
 #[derive(Clone, Copy, PartialEq, Eq, Debug)]
 pub enum PutRefusal {

@@ -49,8 +49,8 @@ impl<Cell: MemoryCell> Custodian for LentCustodian<'_, Cell> {
         if has_number { MOST_UNITS } else { 0 }
     }
 
-    // Put and take stay two functions: one adds and asks for the limit, the other takes away and asks for the holding, and
-    // each has a refusal of its own. That it is still the same lent memory, each call has to say of itself.
+    // Put and take stay two functions: one adds and asks for the limit, the other takes away and asks for the holding,
+    // and each has a refusal of its own. That it is still the same lent memory, each call has to say of itself.
     fn put(&mut self, box_number: usize, units: u64) -> Result<(), PutRefusal>
         ensures moved { Put (boxes_of Cell.layout self.old.memory.now) (boxes_of Cell.layout self.new.memory.now) box_number units result }
         ensures memory { self.new.memory.now ≡ put_memory Cell.layout self.old.memory.now box_number units }

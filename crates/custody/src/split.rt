@@ -39,7 +39,8 @@ impl<First: Custodian, Second: Custodian> Custodian for SplitCustodian<First, Se
         self.second.clear();
     }
 
-    // Each call chooses its side itself: the sides differ in type, so a helper would take every call twice, as two closures.
+    // Each call chooses its side itself: the sides differ in type, so a helper would take every call twice, as two
+    // closures.
     fn held(&self, box_number: usize) -> u64 {
         if of_yen(box_number) {
             self.first.held(box_number)

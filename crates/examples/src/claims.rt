@@ -7,8 +7,8 @@ mod tests {
     use std::process::Abort;
     use std::test::Fail;
 
-    // A direct deposit of yen on account 8, under participant 0, with a customer's and a participant's debt, and what the
-    // customer question and the participant question then answer.
+    // A direct deposit of yen on account 8, under participant 0, with a customer's and a participant's debt, and what
+    // the customer question and the participant question then answer.
     struct DirectDeposit {
         yen: u64,
         customer_debt: u64,

@@ -15,7 +15,8 @@ pub(crate) struct After<'a, L> {
 }
 
 impl<'a, L: Ledger> After<'a, L> {
-    // A box and units, here and where they are handed on: the two are tried apart, so a struct would be taken apart again.
+    // A box and units, here and where they are handed on: the two are tried apart, so a struct would be taken apart
+    // again.
     /// A ledger as it would be with some units gone from a box.
     pub(crate) fn new(ledger: &'a L, place: DepositBox, units: u64) -> Self
         ensures ledger { result.ledger.now ≡ ledger.now }

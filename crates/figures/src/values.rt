@@ -12,8 +12,8 @@ use rules::pocket::Pocket;
 use rules::sizes::ASSETS;
 use rules::value::{applied_value, market_value};
 
-// A box of an asset that there is, in all three below: who counts the assets knows that there is one, and to ask again at
-// each box would make a refusal of what cannot be.
+// A box of an asset that there is, in all three below: who counts the assets knows that there is one, and to ask again
+// at each box would make a refusal of what cannot be.
 
 /// The market value of a box.
 pub(crate) fn box_value<L: Ledger>(ledger: &L, place: DepositBox) -> u64

@@ -27,8 +27,9 @@ fn uncovers(after: u64, before: u64, bound: u64) -> bool
 }
 
 /// Whether units must stay in a box of an account for what others count on. Out of a customer's direct pocket, the own
-/// pool has to go on covering as much of the customer's debt as it did; out of a replacement pocket, that pocket as much
-/// of the customer margin; and out of a replacement or a house pocket, the participant's pool as much of its charge.
+/// pool has to go on covering as much of the customer's debt as it did; out of a replacement pocket, that pocket as
+/// much of the customer margin; and out of a replacement or a house pocket, the participant's pool as much of its
+/// charge.
 #[tactic(auto, unfolding(rules::specs::Orders::withdrawal_barred))]
 pub fn is_withdrawal_barred<L: Ledger>(ledger: &L, place: DepositBox, units: u64) -> bool
     ensures { result ≡ withdrawal_barred (L.Ledger.state ledger.now) (taken (L.Ledger.state ledger.now) place.account place.pocket place.asset units) place.account place.pocket }

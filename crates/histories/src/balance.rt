@@ -12,8 +12,8 @@ use rules::refusal::Refusal::{
 use std::process::Abort;
 use std::test::Fail;
 
-/// What a control account knows of one account: who it is under, once it is open, and its units, pocket by pocket and in
-/// each asset by asset.
+/// What a control account knows of one account: who it is under, once it is open, and its units, pocket by pocket and
+/// in each asset by asset.
 #[derive(Clone, Copy)]
 struct Holding {
     owner: Option<u8>,

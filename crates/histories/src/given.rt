@@ -45,8 +45,8 @@ pub fn give<B: MarginBook>(book: &mut B, given: Given) -> Result<(), Refusal> {
     }
 }
 
-// The runtime and the book are passed on as they are, here and in the histories: a struct of both would be taken apart in
-// each function.
+// The runtime and the book are passed on as they are, here and in the histories: a struct of both would be taken apart
+// in each function.
 
 /// Gives orders one after the other and compares each answer.
 pub fn walk<B: MarginBook>(rt: &impl Abort, book: &mut B, steps: &[Step]) {

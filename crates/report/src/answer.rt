@@ -14,9 +14,9 @@ use std::alloc::{AllocError, Global};
 /// Yen of margin for a lot of each contract.
 const RATES: [u32; CONTRACTS] = [60_000; CONTRACTS];
 
-/// What the program prints of an order file, whole: it is run on a fresh book over a register for yen and a page for all
-/// other assets, both with room for every box, net margin for house accounts and gross margin for customers'. Only want
-/// of memory keeps it from an answer.
+/// What the program prints of an order file, whole: it is run on a fresh book over a register for yen and a page for
+/// all other assets, both with room for every box, net margin for house accounts and gross margin for customers'. Only
+/// want of memory keeps it from an answer.
 pub fn answer(heap: Global, file: &[u8]) -> Result<Vec<u8>, AllocError>
     ensures { IfOk result (λ v. v.items ≡ printed file.now) }
 {
