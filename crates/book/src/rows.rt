@@ -71,6 +71,7 @@ fn lend<F: FnOnce(&mut AccountRow)>(row: &mut AccountRow, function: F)
 
 impl AccountTable {
     /// The row of an account; an empty one for an account that there is not.
+    #[tactic(auto, unfolding(crate::specs::States::rows_of))]
     pub(crate) fn row(&self, account: u16) -> AccountRow
         ensures { result ≡ rows_of self.now account }
     {

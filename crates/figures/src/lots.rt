@@ -7,6 +7,7 @@ use rules::row::Counts;
 use rules::sizes::ACCOUNTS;
 
 /// All lots of one account, long and short.
+#[tactic(auto, using(rules::proofs::Sums::sum_none), unfolding(rules::specs::Orders::row_lots))]
 fn row_lots(counts: &Counts) -> u64
     ensures { result ≡ row_lots_of counts.now }
 {
@@ -18,6 +19,7 @@ fn row_lots(counts: &Counts) -> u64
 }
 
 /// All lots of a participant's accounts, its house account among them.
+#[tactic(auto, using(rules::proofs::Sums::sum_none), unfolding(rules::specs::Orders::open_lots, rules::specs::Figures::over))]
 pub fn open_lots<L: Ledger>(ledger: &L, participant: u8) -> u64
     ensures { result ≡ open_lots_of (L.Ledger.state ledger.now) participant }
 {

@@ -76,6 +76,7 @@ pub(crate) fn account_parts<L: Ledger>(ledger: &L, account: u16) -> Parts
 
 // Four sums in one go over the accounts, so its loop stands beside that of the open lots, which is over numbers.
 /// The sums of a participant over all its accounts.
+#[tactic(auto, using(rules::proofs::Sums::sum_none))]
 pub(crate) fn total_parts<L: Ledger>(ledger: &L, participant: u8) -> Parts
     ensures { result ≡ total_parts (L.Ledger.state ledger.now) participant }
 {

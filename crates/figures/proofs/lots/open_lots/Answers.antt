@@ -1,16 +1,11 @@
-use Rattle.std.proofs.Common.{◌≤◌, sym, ◌∙◌, ap, arith, rules}
+use Rattle.std.proofs.Common.{◌≤◌, sym, ◌∙◌, ap, arith}
 use Rattle.rules.specs.declared.row.AccountRow.{AccountRow}
-use Rattle.rules.specs.Figures.{over}
-use Rattle.rules.specs.Orders.{row_lots, open_lots}
-use Rattle.rules.proofs.Sums.{sum_none}
+use Rattle.rules.specs.Orders.{row_lots}
 use Rattle.figures.specs.Bounds.{most_lots}
 use Rattle.figures.proofs.Bounded.{row_lots_most}
 use Rattle.figures.proofs.Turns.{added, passed}
 use Rattle.figures.proofs.lots.open_lots.Goals as goal
 use Rattle.figures.proofs.lots.open_lots.Goals.{then-is_under, else-is_under}
-
-pub loop-account-init : goal.loop-account-init
-loop-account-init g c = search (rules, sum_none)
 
 pub overflow_add-sum : goal.overflow_add-sum
 overflow_add-sum g c =
@@ -28,7 +23,3 @@ loop-account-preserved g c =
           rw w.sum-is (added _ (λ a. row_lots (s.rows a).counts) _ _ c.loop-account.invariant.0 _ (sym c.is_under.ensures ∙ w.if-is_under.true) lots, omega (arith, few))
       | else-is_under w ↦ rw w.sum-is (passed _ (λ a. row_lots (s.rows a).counts) _ _ c.loop-account.invariant.0 (sym c.is_under.ensures ∙ w.if-is_under.false), omega arith)
     ]
-
-pub returns : goal.returns
-unfolding open_lots over
-returns g c = search rules

@@ -1,7 +1,6 @@
-use Rattle.std.proofs.Common.{◌≡◌, ap, sym, ◌∙◌, arith, rules}
+use Rattle.std.proofs.Common.{◌≡◌, ap, sym, ◌∙◌, arith}
 use Rattle.rules.specs.Sizes.{accounts}
 use Rattle.rules.specs.Figures.{over, pool, charge}
-use Rattle.rules.proofs.Sums.{sum_none}
 use Rattle.figures.proofs.Bounded.{room}
 use Rattle.figures.proofs.Turns.{parts_below, parts_added, parts_passed}
 use Rattle.figures.proofs.parts.total_parts.Goals as goal
@@ -11,9 +10,6 @@ pub with-sums-requires : goal.with-sums-requires
 with-sums-requires g c =
     let fits = room g.L.Ledger.state g.L.Ledger.laws c.args.ledger.now c.args.participant c.loop-account.account _ _ c.loop-account-test.true c.loop-account.invariant c.account_parts.ensures in
     record { pool = fits.0; charge = fits.1; kept = fits.2; passed_on = fits.3 }
-
-pub loop-account-init : goal.loop-account-init
-loop-account-init g c = search (rules, sum_none)
 
 pub loop-account-preserved : goal.loop-account-preserved
 loop-account-preserved g c =
