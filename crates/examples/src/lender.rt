@@ -2,7 +2,7 @@ ghost use Rattle.std.specs.Prelude.{◌≡◌};
 ghost use Rattle.custody.specs.Layouts.{cleared_memory, put_memory, take_memory};
 
 use custody::cell::MemoryCell;
-use custody::custodian::{PutRefusal, TakeRefusal};
+use custody::custodian::{Custodian, PutRefusal, TakeRefusal};
 use custody::lent::LentCustodian;
 
 /// What the lender of a memory finds there once a custodian over it has cleared its boxes and is gone: of numbers
