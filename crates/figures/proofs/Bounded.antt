@@ -7,8 +7,7 @@ use Rattle.rules.specs.Figures.{worth, pocket_value, applied_pocket, withheld, e
 use Rattle.rules.specs.Orders.{row_lots}
 use Rattle.rules.proofs.Sums.{sum_most}
 use Rattle.figures.specs.declared.parts.Parts.{Parts}
-use Rattle.figures.specs.Parts.{parts_of}
-use Rattle.figures.proofs.Turns.{parts_below}
+use Rattle.figures.specs.Parts.{parts_of, parts_below}
 use Rattle.figures.specs.Bounds.{Bounded, most_worth, most_pocket, most_lots}
 use Rattle.figures.proofs.Worths.{worth_most, applied_most}
 

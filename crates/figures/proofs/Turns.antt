@@ -1,11 +1,11 @@
 -- A turn of a loop that adds up a part of some accounts.
-use Rattle.std.proofs.Common.{◌≡◌, ℕ, ◌+◌, Bool, true, false, cond, refl, arith}
-use Rattle.rules.specs.Sizes.{sum}
+use Rattle.std.proofs.Common.{◌≡◌, ℕ, zero, suc, ◌+◌, ◌-◌, ◌≤◌, Bool, true, false, cond, refl, arith}
+use Rattle.rules.specs.Sizes.{accounts, sum}
 use Rattle.rules.specs.States.{State, is, under}
-use Rattle.rules.specs.Figures.{pooled, rest, kept, passed_on, from_customer}
+use Rattle.rules.specs.Figures.{pooled, rest, kept, passed_on, from_customer, over, pool, charge}
 use Rattle.rules.proofs.Sums.{sum_more}
 use Rattle.figures.specs.declared.parts.Parts.{Parts}
-use Rattle.figures.specs.Parts.{parts_of, both_parts}
+use Rattle.figures.specs.Parts.{parts_of, both_parts, parts_below}
 
 -- an account that counts, and one that does not
 module _ (counts : ℕ → Bool) (f : ℕ → ℕ) (n s : ℕ) (e : s ≡ sum n (λ a. cond (counts a) (f a) 0)) where
@@ -14,17 +14,6 @@ module _ (counts : ℕ → Bool) (f : ℕ → ℕ) (n s : ℕ) (e : s ≡ sum n 
 
   pub passed : counts n ≡ false → s ≡ sum (n + 1) (λ a. cond (counts a) (f a) 0)
   passed t = rw (sum_more, t, e) (omega arith)
-
--- the sums of a participant over the first accounts
-abbrev pub parts_below : State → (participant n : ℕ) → Parts
-parts_below s participant n =
-    let so_far : (ℕ → ℕ) → ℕ = λ f. sum n (λ a. cond (is (under s.opened a) participant) (f a) 0) in
-    record {
-      pool = so_far (pooled s);
-      charge = so_far (rest s);
-      kept = so_far (from_customer (kept s));
-      passed_on = so_far (from_customer (passed_on s));
-    }
 
 -- parts are the same where each of the four is
 same : {a b c d a' b' c' d' : ℕ} → a ≡ a' → b ≡ b' → c ≡ c' → d ≡ d' →
@@ -42,3 +31,18 @@ module _ (s : State) (participant n : ℕ) (sums : Parts) (e : sums ≡ parts_be
   parts_passed t =
       let mine : ℕ → Bool = λ a. is (under s.opened a) participant in
       rw e (same (passed mine (pooled s) n _ refl t) (passed mine (rest s) n _ refl t) (passed mine (from_customer (kept s)) n _ refl t) (passed mine (from_customer (passed_on s)) n _ refl t))
+
+-- the sums over fewer accounts are no larger than those over all
+sum_front : (more n : ℕ) (f : ℕ → ℕ) → sum n f ≤ sum (n + more) f
+sum_front zero n f = let e : n + 0 ≡ n = omega arith in rw e (omega arith)
+sum_front (suc more) n f =
+    let e : n + suc more ≡ n + more + 1 = omega arith in
+    rw (e, sum_more) (omega (arith, sum_front more n f))
+
+pub below_all : (s : State) (participant n : ℕ) → n ≤ accounts →
+    ((parts_below s participant n).pool ≤ pool s participant) × ((parts_below s participant n).charge ≤ charge s participant)
+unfolding pool charge over
+below_all s participant n l =
+    let e : n + (accounts - n) ≡ accounts = omega arith in
+    let part : (f : ℕ → ℕ) → sum n f ≤ sum accounts f = λ f. rw e at (sum_front (accounts - n) n f) in
+    (part _, part _)

@@ -1,9 +1,10 @@
 -- The four sums over its accounts from which a participant's figures follow.
-use Rattle.std.specs.Prelude.{ℕ, ◌+◌}
+use Rattle.std.specs.Prelude.{ℕ, ◌+◌, cond}
+use Rattle.rules.specs.Sizes.{sum}
 use Rattle.rules.specs.declared.row.AccountRow.{AccountRow}
 use Rattle.rules.specs.Claims.{own_pool_of, excess_of, withheld_of, claim_of, kept_of, passed_on_of, rest_of}
 use Rattle.rules.specs.Figures.{over, from_customer, claim, withheld, excess, pooled, rest, kept, passed_on, pool, charge}
-use Rattle.rules.specs.States.{State}
+use Rattle.rules.specs.States.{State, is, under}
 use Rattle.figures.specs.declared.shares.Shares.{Shares}
 use Rattle.figures.specs.declared.parts.Parts.{Parts}
 
@@ -61,3 +62,14 @@ total_parts s participant = record {
   kept = over s.opened participant (from_customer (kept s));
   passed_on = over s.opened participant (from_customer (passed_on s));
 }
+
+-- the sums over the first accounts
+abbrev pub parts_below : State → (participant n : ℕ) → Parts
+parts_below s participant n =
+    let so_far : (ℕ → ℕ) → ℕ = λ f. sum n (λ a. cond (is (under s.opened a) participant) (f a) 0) in
+    record {
+      pool = so_far (pooled s);
+      charge = so_far (rest s);
+      kept = so_far (from_customer (kept s));
+      passed_on = so_far (from_customer (passed_on s));
+    }

@@ -1,5 +1,6 @@
 ghost use Rattle.std.specs.Prelude.{◌≡◌, ◌+◌, ◌^◌, ◌<◌};
-ghost use Rattle.figures.specs.Parts.{no_parts, both_parts, parts_of, total_parts};
+ghost use Rattle.rules.specs.Sizes.{accounts};
+ghost use Rattle.figures.specs.Parts.{no_parts, both_parts, parts_of, parts_below, total_parts};
 
 use crate::ledger::Ledger;
 use crate::owners::is_under;
@@ -24,7 +25,7 @@ pub(crate) struct Parts {
 
 impl Parts {
     /// Nothing of each.
-    fn none() -> Parts
+    pub(crate) fn none() -> Parts
         ensures { result ≡ no_parts }
     {
         Parts {
@@ -74,17 +75,28 @@ pub(crate) fn account_parts<L: Ledger>(ledger: &L, account: u16) -> Parts
     }
 }
 
+/// The sums of a participant over the accounts before one, and over that one too.
+pub(crate) fn parts_with<L: Ledger>(ledger: &L, participant: u8, account: u16, sums: Parts) -> Parts
+    requires account { account < accounts }
+    requires before { sums ≡ parts_below (L.Ledger.state ledger.now) participant account }
+    ensures { result ≡ parts_below (L.Ledger.state ledger.now) participant (account + 1) }
+{
+    if is_under(ledger, account, participant) {
+        sums.with(account_parts(ledger, account))
+    } else {
+        sums
+    }
+}
+
 // Four sums in one go over the accounts, so its loop stands beside that of the open lots, which is over numbers.
 /// The sums of a participant over all its accounts.
-#[tactic(auto, using(rules::proofs::Sums::sum_none))]
+#[tactic(auto, using(rules::proofs::Sums::sum_none), unfolding(rules::specs::Figures::over, rules::specs::Figures::pool, rules::specs::Figures::charge))]
 pub(crate) fn total_parts<L: Ledger>(ledger: &L, participant: u8) -> Parts
     ensures { result ≡ total_parts (L.Ledger.state ledger.now) participant }
 {
     let mut sums = Parts::none();
     for account in 0..ACCOUNTS {
-        if is_under(ledger, account, participant) {
-            sums = sums.with(account_parts(ledger, account));
-        }
+        sums = parts_with(ledger, participant, account, sums);
     }
     sums
 }

@@ -6,7 +6,7 @@ use crate::after::After;
 use crate::ledger::Ledger;
 use crate::owners::participant_over;
 use crate::parts::account_parts;
-use crate::pool::kept_from_pool;
+use crate::pool::pool_falls_short;
 use crate::shares::{customer_shares, excess_value, replaced_value};
 use crate::values::box_value;
 use rules::boxes::DepositBox;
@@ -45,7 +45,7 @@ pub fn is_seizure_barred<L: Ledger>(ledger: &L, seizure: Seizure, value: u64) ->
         return customer_shares(ledger, paying).kept < value
             || pocket == Pocket::Replacement as u8 && replaced_value(ledger, paying) < value;
     }
-    kept_from_pool(ledger, participant_over(ledger, paying)) < value
+    pool_falls_short(ledger, participant_over(ledger, paying), value)
         || account_parts(ledger, seizure.paid).charge < value
         || pocket == Pocket::Replacement as u8 && excess_value(ledger, paying) < value
 }

@@ -1,5 +1,5 @@
 use Rattle.std.proofs.Common.{◌≡◌}
-use Rattle.figures.proofs.Turns.{parts_below}
+use Rattle.figures.specs.Parts.{parts_below}
 use Rattle.figures.proofs.parts.total_parts.Given as goal
 
 abbrev pub invariant-loop-account : goal.invariant-loop-account
