@@ -45,9 +45,9 @@ impl<Custody: Custodian, HouseMethod: MarginMethod, CustomerMethod: MarginMethod
     /// Clears the custodian and makes an empty book over it. The first method sets the margin of house accounts, the
     /// second that of customer accounts. The promise is the law of runs for this very book, whole.
     pub fn new(mut custody: Custody, house: HouseMethod, customers: CustomerMethod) -> Self
-        ensures state { state_of result.records (Custody.Custodian.boxes result.custody) ≡ made }
-        ensures promise { Promise (terms_of (Custody.Custodian.boxes result.custody) (HouseMethod.MarginMethod.amount result.house) (CustomerMethod.MarginMethod.amount result.customers)) (state_of result.records (Custody.Custodian.boxes result.custody)) }
-        ensures terms { terms_of (Custody.Custodian.boxes result.custody) (HouseMethod.MarginMethod.amount result.house) (CustomerMethod.MarginMethod.amount result.customers) ≡ terms_of (Custody.Custodian.boxes custody) (HouseMethod.MarginMethod.amount house) (CustomerMethod.MarginMethod.amount customers) }
+        ensures state { ⟦<Self as MarginBook>⟧.state result ≡ made }
+        ensures promise { Promise (⟦<Self as MarginBook>⟧.terms result) (⟦<Self as MarginBook>⟧.state result) }
+        ensures terms { ⟦<Self as MarginBook>⟧.terms result ≡ terms_of (Custody.Custodian.boxes custody) (HouseMethod.MarginMethod.amount house) (CustomerMethod.MarginMethod.amount customers) }
     {
         custody.clear();
         Book {
@@ -60,7 +60,7 @@ impl<Custody: Custodian, HouseMethod: MarginMethod, CustomerMethod: MarginMethod
 
     /// The standing of a participant.
     fn standing(&self, participant: u8) -> Standing
-        ensures { result ≡ (state_of self.now.records (Custody.Custodian.boxes self.now.custody)).standing participant }
+        ensures { result ≡ (⟦<Self as MarginBook>⟧.state self.now).standing participant }
     {
         self.records
             .standings
@@ -72,7 +72,7 @@ impl<Custody: Custodian, HouseMethod: MarginMethod, CustomerMethod: MarginMethod
     /// Where an event leads a participant; refuses a participant that there is not, and an event that cannot happen to
     /// it where it stands.
     fn next_standing(&self, participant: u8, event: DefaultEvent) -> Result<Standing, Refusal>
-        ensures { result ≡ (if nat_lt participant participants then next_standing ((state_of self.now.records (Custody.Custodian.boxes self.now.custody)).standing participant) event else Err WrongParticipant) }
+        ensures { result ≡ (if nat_lt participant participants then next_standing ((⟦<Self as MarginBook>⟧.state self.now).standing participant) event else Err WrongParticipant) }
     {
         if participant >= PARTICIPANTS {
             return Err(Refusal::WrongParticipant);
@@ -82,14 +82,14 @@ impl<Custody: Custodian, HouseMethod: MarginMethod, CustomerMethod: MarginMethod
 
     /// The standing of the participant that an account is under.
     pub(crate) fn standing_over(&self, account: u16) -> Standing
-        ensures { result ≡ (state_of self.now.records (Custody.Custodian.boxes self.now.custody)).standing (participant_of (state_of self.now.records (Custody.Custodian.boxes self.now.custody)) account) }
+        ensures { let s = ⟦<Self as MarginBook>⟧.state self.now in result ≡ s.standing (participant_of s account) }
     {
         self.standing(participant_over(self, account))
     }
 
     /// Whether orders may name an account: a house account, or a customer account that is open.
     pub(crate) fn knows(&self, account: u16) -> bool
-        ensures { result ≡ known (state_of self.now.records (Custody.Custodian.boxes self.now.custody)) account }
+        ensures { result ≡ known (⟦<Self as MarginBook>⟧.state self.now) account }
     {
         account < ACCOUNTS && self.owner(account).is_some()
     }

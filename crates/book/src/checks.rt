@@ -5,10 +5,10 @@ ghost use Rattle.rules.specs.States.{known};
 ghost use Rattle.rules.specs.Refusals.{answered};
 ghost use Rattle.rules.specs.Figures.{maintenance_amount};
 ghost use Rattle.rules.specs.Orders.{no_such_pocket, units_out_of_range, tests, taken, leaving, withdraw, seize};
-ghost use Rattle.book.specs.States.{state_of, terms_of};
 
 use crate::book::Book;
 use crate::limits::{check_units, no_such_pocket, wrong_side};
+use crate::orders::MarginBook;
 use custody::custodian::Custodian;
 use figures::coverage::covering_after;
 use figures::owners::participant_over;
@@ -29,7 +29,7 @@ impl<Custody: Custodian, HouseMethod: MarginMethod, CustomerMethod: MarginMethod
     /// What an account has to be covered by, by the method for its kind.
     #[tactic(auto, unfolding(rules::specs::Figures::maintenance_amount))]
     fn maintenance_amount(&self, account: u16) -> u64
-        ensures { let boxes = Custody.Custodian.boxes self.now.custody in let s = state_of self.now.records boxes in let T = terms_of boxes (HouseMethod.MarginMethod.amount self.now.house) (CustomerMethod.MarginMethod.amount self.now.customers) in result ≡ maintenance_amount T s account }
+        ensures { let s = ⟦<Self as MarginBook>⟧.state self.now in let T = ⟦<Self as MarginBook>⟧.terms self.now in result ≡ maintenance_amount T s account }
     {
         let counts = self.records.table.counts(account);
         if is_house(account) {
@@ -42,7 +42,7 @@ impl<Custody: Custodian, HouseMethod: MarginMethod, CustomerMethod: MarginMethod
     /// Tries the refusals that a deposit and a withdrawal begin with, in their order: of the account, its pocket, the
     /// asset and the units.
     pub(crate) fn check_box(&self, place: DepositBox, units: u64) -> Result<(), Refusal>
-        ensures { let boxes = Custody.Custodian.boxes self.now.custody in let s = state_of self.now.records boxes in result ≡ answered ((WrongAccount, not (known s place.account)) ∷ ((WrongPocket, no_such_pocket place.account place.pocket) ∷ ((WrongAsset, not (nat_lt place.asset assets)) ∷ ((OutOfRange, units_out_of_range units) ∷ [])))) tt }
+        ensures { let s = ⟦<Self as MarginBook>⟧.state self.now in result ≡ answered ((WrongAccount, not (known s place.account)) ∷ ((WrongPocket, no_such_pocket place.account place.pocket) ∷ ((WrongAsset, not (nat_lt place.asset assets)) ∷ ((OutOfRange, units_out_of_range units) ∷ [])))) tt }
     {
         if !self.knows(place.account) {
             return Err(Refusal::WrongAccount);
@@ -55,7 +55,7 @@ impl<Custody: Custodian, HouseMethod: MarginMethod, CustomerMethod: MarginMethod
 
     /// Tries the refusals of a withdrawal in their order. Nothing is taken before all have been tried.
     pub(crate) fn check_withdrawal(&self, place: DepositBox, units: u64) -> Result<(), Refusal>
-        ensures { let boxes = Custody.Custodian.boxes self.now.custody in let s = state_of self.now.records boxes in let T = terms_of boxes (HouseMethod.MarginMethod.amount self.now.house) (CustomerMethod.MarginMethod.amount self.now.customers) in result ≡ answered (tests T s (withdraw place.account place.pocket place.asset units)) tt }
+        ensures { let s = ⟦<Self as MarginBook>⟧.state self.now in let T = ⟦<Self as MarginBook>⟧.terms self.now in result ≡ answered (tests T s (withdraw place.account place.pocket place.asset units)) tt }
     {
         self.check_box(place, units)?;
         let account = place.account;
@@ -77,7 +77,7 @@ impl<Custody: Custodian, HouseMethod: MarginMethod, CustomerMethod: MarginMethod
     /// Tries the refusals of a seizure in their order, and answers the market value that it would take out of the box.
     /// Nothing is taken before all have been tried.
     pub(crate) fn check_seizure(&self, seizure: Seizure) -> Result<u64, Refusal>
-        ensures { let boxes = Custody.Custodian.boxes self.now.custody in let s = state_of self.now.records boxes in let T = terms_of boxes (HouseMethod.MarginMethod.amount self.now.house) (CustomerMethod.MarginMethod.amount self.now.customers) in result ≡ answered (tests T s (seize seizure.side seizure.from.account seizure.from.pocket seizure.from.asset seizure.paid seizure.units)) (leaving s (taken s seizure.from.account seizure.from.pocket seizure.from.asset seizure.units) seizure.from.account seizure.from.pocket seizure.from.asset) }
+        ensures { let s = ⟦<Self as MarginBook>⟧.state self.now in let T = ⟦<Self as MarginBook>⟧.terms self.now in result ≡ answered (tests T s (seize seizure.side seizure.from.account seizure.from.pocket seizure.from.asset seizure.paid seizure.units)) (leaving s (taken s seizure.from.account seizure.from.pocket seizure.from.asset seizure.units) seizure.from.account seizure.from.pocket seizure.from.asset) }
     {
         let Seizure {
             from,
