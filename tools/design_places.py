@@ -53,7 +53,7 @@ def files(commit, part, ending):
     for name in names:
         if f"/{part}/" in name and name.endswith(ending) and "/out/" not in name:
             try:
-                yield name, (run("git", "show", f"{commit}:{name}") if commit else open(name).read()).split("\n")
+                yield name, (run("git", "show", f"{commit}:{name}") if commit else open(name).read()).splitlines()
             except FileNotFoundError:
                 pass
 

@@ -24,7 +24,7 @@ use rules::boxes::DepositBox;
 use rules::refusal::Refusal;
 use rules::row::{Declared, Lots};
 use rules::seizure::Seizure;
-use rules::sizes::{ACCOUNTS, ASSETS, BOXES, MOST_HAIRCUT, MOST_PRICE, PARTICIPANTS};
+use rules::sizes::{ACCOUNTS, BOXES, MOST_HAIRCUT, MOST_PRICE, PARTICIPANTS};
 use rules::standing::{DefaultEvent, Standing};
 
 /// A margin book over a custodian and two margin methods: the first sets the margin of house accounts, the second that
@@ -110,15 +110,15 @@ impl<Custody: Custodian, HouseMethod: MarginMethod, CustomerMethod: MarginMethod
         if participant >= PARTICIPANTS {
             return Err(Refusal::WrongParticipant);
         }
-        let Standing::Active = self.records.standings[participant as usize] else {
+        if self.standing(participant) != Standing::Active {
             return Err(Refusal::WrongStanding);
-        };
+        }
         self.records.opened[account as usize] = Some(participant);
         Ok(())
     }
 
     fn mark(&mut self, asset: u8, price: u32, haircut: u16) -> Result<(), Refusal> {
-        if asset == Asset::Yen as u8 || asset >= ASSETS {
+        if Asset::try_from(asset)? == Asset::Yen {
             return Err(Refusal::WrongAsset);
         }
         if price > MOST_PRICE || haircut > MOST_HAIRCUT {
@@ -172,6 +172,7 @@ impl<Custody: Custodian, HouseMethod: MarginMethod, CustomerMethod: MarginMethod
         Ok(())
     }
 
+    // What deposit and withdraw have alike is `check_box`, under both; what is left of each is one line.
     fn deposit(&mut self, account: u16, pocket: u8, asset: u8, units: u64) -> Result<(), Refusal> {
         let place = DepositBox {
             account,

@@ -59,7 +59,7 @@ impl<Custody: Custodian, HouseMethod: MarginMethod, CustomerMethod: MarginMethod
     {
         self.check_box(place, units)?;
         let account = place.account;
-        if let Standing::Suspended = self.standing_over(account) {
+        if self.standing_over(account) == Standing::Suspended {
             return Err(Refusal::WrongStanding);
         }
         if self.custody.held(place.number()) < units {
@@ -100,7 +100,7 @@ impl<Custody: Custodian, HouseMethod: MarginMethod, CustomerMethod: MarginMethod
             return Err(Refusal::WrongPocket);
         }
         check_units(asset, units)?;
-        if let Standing::Active = self.standing_over(paying) {
+        if self.standing_over(paying) == Standing::Active {
             return Err(Refusal::WrongStanding);
         }
         if self.custody.held(from.number()) < units {

@@ -6,18 +6,23 @@ ghost use Rattle.rules.specs.Orders.{no_such_pocket, units_out_of_range, counts_
 
 use figures::withdrawals::customer_draws;
 use rules::accounts::is_house;
+use rules::asset::Asset;
 use rules::pocket::Pocket;
 use rules::refusal::Refusal;
 use rules::row::{Declared, Lots};
 use rules::seizure::{Seizure, Side};
-use rules::sizes::{ASSETS, CONTRACTS, MOST_AMOUNT, MOST_COUNT, MOST_UNITS, POCKETS};
+use rules::sizes::{CONTRACTS, MOST_AMOUNT, MOST_COUNT, MOST_UNITS};
 use rules::standing::Standing;
 
 /// Whether an account has no such pocket: a house account has the direct one only.
 pub(crate) fn no_such_pocket(account: u16, pocket: u8) -> bool
     ensures { result ≡ no_such_pocket account pocket }
 {
-    pocket >= POCKETS || is_house(account) && pocket != Pocket::Direct as u8
+    match Pocket::try_from(pocket) {
+        Ok(Pocket::Direct) => false,
+        Ok(Pocket::Replacement) => is_house(account),
+        Err(_) => true,
+    }
 }
 
 /// Whether no order may move so many units.
@@ -31,9 +36,7 @@ fn units_out_of_range(units: u64) -> bool
 pub(crate) fn check_units(asset: u8, units: u64) -> Result<(), Refusal>
     ensures { result ≡ answered ((WrongAsset, not (nat_lt asset assets)) ∷ ((OutOfRange, units_out_of_range units) ∷ [])) tt }
 {
-    if asset >= ASSETS {
-        return Err(Refusal::WrongAsset);
-    }
+    Asset::try_from(asset)?;
     if units_out_of_range(units) {
         return Err(Refusal::OutOfRange);
     }

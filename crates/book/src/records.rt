@@ -11,8 +11,8 @@ use rules::standing::Standing;
 pub(crate) struct Records {
     /// The rows of the accounts.
     pub(crate) table: AccountTable,
-    // Beside the table and not in its rows: a row is lent and keeps an invariant, an owner is only read, for all
-    // accounts.
+    // Beside the table and not in its rows: a row is lent whole and keeps an invariant; an owner keeps none, and is
+    // written once, by `open`.
     /// The participant that each customer account was opened under.
     pub(crate) opened: [Option<u8>; ACCOUNTS_LEN],
     /// The standing of each participant.

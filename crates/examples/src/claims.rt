@@ -29,6 +29,7 @@ mod tests {
         Ok(())
     }
 
+    // A test for each case, so that a run which fails names it.
     #[test]
     fn both_debts(rt: HostRuntime) -> Result<(), Fail> {
         compare(

@@ -6,6 +6,8 @@ mod tests {
     use custody::split::SplitCustodian;
     use std::process::Abort;
 
+    // The runtime and the custodian are passed on as they are: a struct of both would be taken apart in each function.
+
     // Units of yen and of shares, put into the same account's boxes 64 and 67.
     fn both_kinds<C: Custodian>(rt: &impl Abort, custody: &mut C) {
         custody.clear();

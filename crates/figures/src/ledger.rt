@@ -5,9 +5,10 @@ ghost use Rattle.figures.specs.Views.{HaircutsBounded};
 
 use rules::row::AccountRow;
 
-// The figures are functions over a ledger and not its methods, nor those of a ledger with an account: no implementer
-// can put others in their place, and a pair of the two would be made anew in every loop over accounts. Accounts, assets
-// and boxes come by number: a state is told at every number.
+// The figures are functions over a ledger and not its methods, nor those of a ledger with an account or a participant:
+// no implementer can put others in their place, and a pair of the two would be made anew in every loop over accounts.
+// Accounts, assets and boxes come by number: a state is told at every number, and a narrower type would ask more of who
+// calls.
 /// What a book's state is read from.
 pub trait Ledger {
     /// The state that is read.

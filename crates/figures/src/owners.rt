@@ -11,6 +11,8 @@ pub(crate) fn is_under<L: Ledger>(ledger: &L, account: u16, participant: u8) -> 
     ledger.owner(account) == Some(participant)
 }
 
+// A number and no `Option`, which `owner` of a ledger gives: the definitions that it is proved by, and the law under
+// them, speak of a number for every account.
 /// The participant that an account is under; past the last one where it is under none.
 pub fn participant_over<L: Ledger>(ledger: &L, account: u16) -> u8
     ensures { result ≡ participant_of (L.Ledger.state ledger.now) account }

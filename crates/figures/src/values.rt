@@ -12,8 +12,9 @@ use rules::pocket::Pocket;
 use rules::sizes::ASSETS;
 use rules::value::{applied_value, market_value};
 
-// A box of an asset that there is, in all three below: who counts the assets knows that there is one, and to ask again
-// at each box would make a refusal of what cannot be.
+// A box of an asset that there is, in all three below, and named by its number: the definitions are of every number, and
+// with an `Asset` in its place one would be made of each number that is counted, and taken back to it for the box. That a
+// box is worth at most so much is said with each value, and asked of the closure that is summed up.
 
 /// The market value of a box.
 pub(crate) fn box_value<L: Ledger>(ledger: &L, place: DepositBox) -> u64
@@ -45,7 +46,7 @@ fn boxes_of<F: Fn(DepositBox) -> u64>(account: u16, pocket: Pocket, value_of: F)
     for asset in 0..ASSETS {
         sum += value_of(DepositBox {
             account,
-            pocket: pocket.number(),
+            pocket: pocket as u8,
             asset,
         });
     }

@@ -44,8 +44,8 @@ impl<Way: LotCounting> MarginMethod for RateMargin<Way> {
 
     #[tactic(auto, using(rules::proofs::Sums::sum_none), unfolding(crate::specs::Rates::asked))]
     fn maintenance_amount(&self, counts: &BoundedCounts) -> u64 {
-        // Contract by contract, with the number that picks the rate: the form that was asked for in net and gross
-        // margin.
+        // Contract by contract, with the number that picks the rate, is a rule of the project (docs/DECISIONS.md,
+        // Shapes of the code).
         let mut sum = 0;
         for (contract, lots) in counts.counts.each.iter().enumerate() {
             sum += asked::<Way>(*lots, self.rates.each[contract]);

@@ -34,6 +34,8 @@ impl<'a> FileOrder<'a> {
         Ok((FileOrder { raw }, rest))
     }
 
+    // That the terms stay the same, here and in each call that gives a book orders: no law of the trait can speak of a
+    // book before and after.
     /// Gives the order to a book.
     fn ask<B: MarginBook>(self, book: &mut B) -> Result<(), Refusal>
         ensures step { (result, B.MarginBook.state book.new) ≡ step (B.MarginBook.terms book.old) (B.MarginBook.state book.old) (meant self.entry.raw) }

@@ -5,6 +5,8 @@ ghost use Rattle.orders.specs.RawOrders.{kind_read, body_read, kind_named, named
 use crate::raw_order::RawOrder;
 use rules::refusal::Refusal;
 
+// Beside `RawOrder`, which has a body in each case (a rule of the project): how many bytes a body takes has to be known of
+// the kind before there is a body.
 /// What a kind byte stands for.
 #[derive(Clone, Copy, PartialEq, Eq, Debug)]
 pub(crate) enum OrderKind {

@@ -44,6 +44,7 @@ fn perform_all<B: MarginBook>(book: &mut B, file: OrderFile, answers: &mut [u8])
     }
 }
 
+// Answers as bytes and not as outcomes: the list is the caller's, who may print it or send it on.
 /// Runs a whole file on a book.
 ///
 /// The file is looked through first. It is refused, and then nothing is changed at all, with

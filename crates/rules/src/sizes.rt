@@ -35,11 +35,11 @@ pub const MOST_COUNT: u32 = 1_000_000;
 /// `ACCOUNTS` as a length.
 pub const ACCOUNTS_LEN: usize = ACCOUNTS as usize;
 
-/// Boxes: one for each account, pocket and asset.
-pub const BOXES: usize = ACCOUNTS_LEN * 8;
-
 /// `PARTICIPANTS` as a length.
 pub const PARTICIPANTS_LEN: usize = PARTICIPANTS as usize;
 
 /// `ASSETS` as a length.
 pub const ASSETS_LEN: usize = ASSETS as usize;
+
+/// Boxes: one for each account, pocket and asset.
+pub const BOXES: usize = ACCOUNTS_LEN * POCKETS as usize * ASSETS_LEN;

@@ -20,6 +20,7 @@ fn agrees(rt: &HostRuntime, number: u32) -> anyhow::Result<bool> {
     Ok(answer(heap, &file)? == expected)
 }
 
+// Counted as it goes, and not by a chain: each turn may print, and fail.
 /// Runs all files, and names those that print something else.
 fn compare_all(rt: &HostRuntime) -> anyhow::Result<()> {
     let mut agreed = 0u32;
