@@ -14,6 +14,7 @@ pub enum Pocket {
     Replacement,
 }
 
+// Written out for each enum that a number names: no derive of the library gives it.
 impl TryFrom<u8> for Pocket {
     type Error = Refusal;
 
