@@ -18,6 +18,13 @@ fn row_lots(counts: &Counts) -> u64
     sum
 }
 
+/// All lots of the account of a number.
+fn account_lots<L: Ledger>(ledger: &L, account: u16) -> u64
+    ensures { result ≡ row_lots_of ((L.Ledger.state ledger.now).rows account).counts }
+{
+    row_lots(&ledger.row(account).counts)
+}
+
 /// All lots of a participant's accounts, its house account among them.
 #[tactic(auto, using(rules::proofs::Sums::sum_none), unfolding(rules::specs::Orders::open_lots, rules::specs::Figures::over))]
 pub fn open_lots<L: Ledger>(ledger: &L, participant: u8) -> u64
@@ -26,7 +33,7 @@ pub fn open_lots<L: Ledger>(ledger: &L, participant: u8) -> u64
     let mut sum = 0;
     for account in 0..ACCOUNTS {
         if is_under(ledger, account, participant) {
-            sum += row_lots(&ledger.row(account).counts);
+            sum += account_lots(ledger, account);
         }
     }
     sum

@@ -6,6 +6,7 @@ use crate::after::After;
 use crate::ledger::Ledger;
 use crate::owners::participant_over;
 use crate::parts::total_parts;
+use crate::pool::pool_value;
 use crate::shares::own_pool;
 use crate::values::pocket_value;
 use rules::accounts::is_house;
@@ -57,6 +58,5 @@ pub fn is_withdrawal_barred<L: Ledger>(ledger: &L, place: DepositBox, units: u64
     }
     let participant = participant_over(ledger, account);
     let sums = total_parts(ledger, participant);
-    let sums_after = total_parts(&after, participant);
-    uncovers(sums_after.pool, sums.pool, sums.charge)
+    uncovers(pool_value(&after, participant), sums.pool, sums.charge)
 }
