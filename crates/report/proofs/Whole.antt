@@ -9,18 +9,9 @@ use Rattle.orders.specs.declared.fault.FileFault.{FileFault}
 use Rattle.orders.specs.Reading.{Reading, reading}
 use Rattle.orders.specs.Runs.{admitted, answered, state_after, list_after, answers_to}
 use Rattle.report.specs.Reports.{report, fault_line}
+use Rattle.report.specs.Outcomes.{outcome_lines, AllAnswered}
 use Rattle.report.specs.Printed.{printed_of, printed_from}
 use Rattle.report.proofs.Places.{places, never_too_few}
-
--- what is printed by what a run of a file answers: how far its answer list is filled, or its fault
-abbrev outcome_lines : Result Accepted FileFault → (answers : List ℕ) → State → List ℕ
-outcome_lines (Ok accepted) answers s = report (take accepted.orders answers) s
-outcome_lines (Err fault) answers s = fault_line fault
-
--- every order has its answer in the list
-abbrev AllAnswered : Result Accepted FileFault → (answers : List ℕ) → Type 0
-AllAnswered (Ok accepted) answers = accepted.orders ≤ length answers
-AllAnswered (Err fault) answers = Unit
 
 module _ (T : Terms) where
   entries : (s : State) (orders : List Order) → length (history T s orders) ≡ length orders

@@ -1,10 +1,12 @@
 ghost use Rattle.std.specs.Prelude.{◌≡◌, Some, IfOk, string_bytes};
 ghost use Rattle.report.specs.Reports.{report};
+ghost use Rattle.report.specs.Outcomes.{outcome_lines, AllAnswered};
 ghost use Rattle.report.specs.Printed.{printed_from};
 
-use crate::sections::{AccountLines, OrderLines, ParticipantLines};
+use crate::sections::{AccountLines, FaultLine, OrderLines, ParticipantLines};
 use book::orders::MarginBook;
 use orders::accepted::Accepted;
+use orders::fault::FileFault;
 use orders::run::run;
 use std::alloc::{AllocError, Global};
 use std::fmt;
@@ -32,6 +34,26 @@ impl<B: MarginBook> fmt::Display for Report<'_, B> {
     }
 }
 
+/// What is printed of a file that was run, given the answer list and the book after it.
+fn print_outcome<B: MarginBook>(
+    heap: Global,
+    outcome: Result<Accepted, FileFault>,
+    answers: &[u8],
+    book: &B,
+) -> Result<String, AllocError>
+    requires { AllAnswered outcome answers.now }
+    ensures { IfOk result (λ s. string_bytes s ≡ outcome_lines outcome answers.now (B.MarginBook.state book.now)) }
+{
+    match outcome {
+        Ok(Accepted { orders }) => Report {
+            answers: &answers[..orders],
+            book,
+        }
+        .to_string(heap),
+        Err(fault) => FaultLine { fault }.to_string(heap),
+    }
+}
+
 /// Runs a file on a book, and tells what is printed of it.
 pub(crate) fn print_run<B: MarginBook>(
     heap: Global,
@@ -43,12 +65,6 @@ pub(crate) fn print_run<B: MarginBook>(
     // a run works without a heap, so it fills places that it is lent and answers how many it filled
     let mut places = vec![in heap; 0u8; PLACES]?;
     let answers = places.as_mut_slice();
-    match run(book, file, answers) {
-        Ok(Accepted { orders }) => Report {
-            answers: &answers[..orders],
-            book,
-        }
-        .to_string(heap),
-        Err(fault) => format!(in heap; "FILE {} {}\n", fault.refusal.number(), fault.place),
-    }
+    let outcome = run(book, file, answers);
+    print_outcome(heap, outcome, answers, book)
 }

@@ -1,9 +1,10 @@
 ghost use Rattle.std.specs.Prelude.{Some};
 ghost use Rattle.rules.specs.Sizes.{accounts, participants};
 ghost use Rattle.report.specs.Lines.{in_turn};
-ghost use Rattle.report.specs.Reports.{order_lines, account_lines, participant_lines};
+ghost use Rattle.report.specs.Reports.{order_lines, account_lines, participant_lines, fault_line};
 
 use book::orders::MarginBook;
+use orders::fault::FileFault;
 use rules::sizes::{ACCOUNTS, PARTICIPANTS};
 use std::fmt;
 
@@ -65,5 +66,20 @@ impl<B: MarginBook> fmt::Display for ParticipantLines<'_, B> {
             }
         }
         Ok(())
+    }
+}
+
+/// The line of a refused file.
+#[derive(Clone, Copy)]
+pub(crate) struct FaultLine {
+    pub(crate) fault: FileFault,
+}
+
+impl fmt::Display for FaultLine {
+    ghost output = { λ line. Some (fault_line line.fault) };
+
+    fn fmt<W: fmt::Write>(&self, f: &mut fmt::Formatter<W>) -> fmt::Result {
+        let FileFault { refusal, place } = self.fault;
+        writeln!(f, "FILE {} {}", refusal.number(), place)
     }
 }
