@@ -16,7 +16,8 @@ pub fn clear_lent<Cell: MemoryCell>(memory: &mut [Cell])
     LentCustodian::new(memory).clear();
 }
 
-// Memory, box and units are what the lender has at hand; a struct of them would be made for these two calls alone.
+// Memory, box and units are what the lender has at hand; a struct of them would be made for a put and a take alone,
+// here and on numbers and bytes below.
 /// The same after a put.
 pub fn put_lent<Cell: MemoryCell>(
     memory: &mut [Cell],

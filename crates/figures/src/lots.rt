@@ -18,7 +18,7 @@ fn row_lots(counts: &Counts) -> u64
     sum
 }
 
-/// All lots of the account of a number.
+/// All lots of an account, read off a ledger.
 fn account_lots<L: Ledger>(ledger: &L, account: u16) -> u64
     ensures { result ≡ row_lots_of ((L.Ledger.state ledger.now).rows account).counts }
 {

@@ -88,8 +88,8 @@ pub(crate) fn parts_with<L: Ledger>(ledger: &L, participant: u8, account: u16, s
     }
 }
 
-// Its loop stands beside that of the open lots: one over a closure that gives an account's number would serve the open
-// lots alone, since here four sums grow in one go.
+// Its loop stands beside those of the open lots and of the pool alone: they add one number of each account, and here
+// four sums grow in one go.
 /// The sums of a participant over all its accounts.
 #[tactic(auto, using(rules::proofs::Sums::sum_none), unfolding(rules::specs::Figures::over, rules::specs::Figures::pool, rules::specs::Figures::charge))]
 pub(crate) fn total_parts<L: Ledger>(ledger: &L, participant: u8) -> Parts

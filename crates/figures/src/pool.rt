@@ -23,7 +23,8 @@ fn pooled_value<L: Ledger>(ledger: &L, account: u16) -> u64
 }
 
 // A loop beside that of `total_parts`, since this one never asks for a direct pocket of a customer: a withdrawal wants
-// the pool alone as it would be, and by all four sums it asked the custodian for a third more boxes.
+// the pool alone as it would be, and by all four sums it asked the custodian for a third more boxes. Nor one function
+// with `open_lots`: the clauses on a closure for what an account adds would be longer than the two loops.
 /// A participant's pool, without the other sums over its accounts.
 #[tactic(auto, using(rules::proofs::Sums::sum_none), unfolding(rules::specs::Figures::pool, rules::specs::Figures::over))]
 pub(crate) fn pool_value<L: Ledger>(ledger: &L, participant: u8) -> u64
